@@ -1,0 +1,4 @@
+pub mod Choice
+pub mod Rounding
+pub mod Fraction
+pub mod Unit

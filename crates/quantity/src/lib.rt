@@ -1,0 +1,139 @@
+// Whole-number arithmetic with stated rounding, and the codes' units as types of their own.
+ghost use mathlib.Core.Path.{_≡_};
+ghost use Prim.Native.Nat.{_+_, _-_, _*_, _<_, _^_, min, max};
+ghost use Rattle.quantity.specs.Rounding.{up, down, clamp};
+ghost use Rattle.quantity.specs.Unit.{newtons, millimetres, stressOf, stressOfTenths, stressOfHundredths, inUnits, inTenths, inHundredths};
+
+// n / d, rounded down.
+pub fn div_down(n: u64, d: u64) -> u64
+    requires { ⌜ 0 < d ⌝ }
+    ensures { λ r. ⌜ r ≡ down n d ⌝ }
+{
+    n / d
+}
+
+// n / d, rounded up.
+pub fn div_up(n: u64, d: u64) -> u64
+    requires { ⌜ 0 < d ⌝ }
+    ensures { λ r. ⌜ r ≡ up n d ⌝ }
+{
+    let q = n / d;
+    if q * d < n { q + 1 } else { q }
+}
+
+pub fn smaller(a: u64, b: u64) -> u64
+    ensures { λ r. ⌜ r ≡ min a b ⌝ }
+{
+    if a < b { a } else { b }
+}
+
+pub fn larger(a: u64, b: u64) -> u64
+    ensures { λ r. ⌜ r ≡ max a b ⌝ }
+{
+    if a < b { b } else { a }
+}
+
+// a - b, and 0 where b is the larger one.
+pub fn less(a: u64, b: u64) -> u64
+    ensures { λ r. ⌜ r ≡ a - b ⌝ }
+{
+    if a < b { 0 } else { a - b }
+}
+
+// x held to lo .. hi.
+pub fn clamped(lo: u64, hi: u64, x: u64) -> u64
+    ensures { λ r. ⌜ r ≡ clamp lo hi x ⌝ }
+{
+    smaller(hi, larger(lo, x))
+}
+
+// Newtons.
+pub struct Force(pub u64);
+
+// Millimetres.
+pub struct Length(pub u64);
+
+// Hundredths of a newton per square millimetre.
+pub struct Stress(pub u64);
+
+impl Force {
+    pub fn of_newtons(n: u64) -> Force
+        ensures { λ r. ⌜ r ≡ newtons n ⌝ }
+    {
+        Force(n)
+    }
+
+    pub fn in_newtons(self) -> u64
+        ensures { λ r. ⌜ r ≡ self .0 ⌝ }
+    {
+        self.0
+    }
+
+    pub fn plus(self, other: Force) -> Force
+        requires { ⌜ self .0 + other .0 < 2 ^ 64 ⌝ }
+        ensures { λ r. ⌜ r ≡ newtons (self .0 + other .0) ⌝ }
+    {
+        Force(self.0 + other.0)
+    }
+}
+
+impl Length {
+    pub fn of_millimetres(n: u64) -> Length
+        ensures { λ r. ⌜ r ≡ millimetres n ⌝ }
+    {
+        Length(n)
+    }
+
+    pub fn in_millimetres(self) -> u64
+        ensures { λ r. ⌜ r ≡ self .0 ⌝ }
+    {
+        self.0
+    }
+
+    // The length that is left of this one, 0 where the other is longer.
+    pub fn minus(self, other: Length) -> Length
+        ensures { λ r. ⌜ r ≡ millimetres (self .0 - other .0) ⌝ }
+    {
+        Length(less(self.0, other.0))
+    }
+}
+
+impl Stress {
+    pub fn of_units(n: u64) -> Stress
+        requires { ⌜ 100 * n < 2 ^ 64 ⌝ }
+        ensures { λ r. ⌜ r ≡ stressOf n ⌝ }
+    {
+        Stress(100 * n)
+    }
+
+    pub fn of_tenths(n: u64) -> Stress
+        requires { ⌜ 10 * n < 2 ^ 64 ⌝ }
+        ensures { λ r. ⌜ r ≡ stressOfTenths n ⌝ }
+    {
+        Stress(10 * n)
+    }
+
+    pub fn of_hundredths(n: u64) -> Stress
+        ensures { λ r. ⌜ r ≡ stressOfHundredths n ⌝ }
+    {
+        Stress(n)
+    }
+
+    pub fn in_units(self) -> u64
+        ensures { λ r. ⌜ r ≡ inUnits self ⌝ }
+    {
+        div_down(self.0, 100)
+    }
+
+    pub fn in_tenths(self) -> u64
+        ensures { λ r. ⌜ r ≡ inTenths self ⌝ }
+    {
+        div_down(self.0, 10)
+    }
+
+    pub fn in_hundredths(self) -> u64
+        ensures { λ r. ⌜ r ≡ inHundredths self ⌝ }
+    {
+        self.0
+    }
+}
