@@ -10,7 +10,6 @@ infixl 65 _⊖_
 infix 50 _≼_
 infix 50 _≺_
 infix 50 _≈_
-
 pub record Frac : Type 0 where
   pub num : ℕ
   pub den : ℕ

@@ -99,24 +99,22 @@ impl Length {
 }
 
 impl Stress {
-    pub fn of_units(n: u64) -> Stress
-        requires { ⌜ 100 * n < 2 ^ 64 ⌝ }
+    pub fn of_units(n: u32) -> Stress
         ensures { λ r. ⌜ r ≡ stressOf n ⌝ }
     {
-        Stress(100 * n)
+        Stress(100 * (n as u64))
     }
 
-    pub fn of_tenths(n: u64) -> Stress
-        requires { ⌜ 10 * n < 2 ^ 64 ⌝ }
+    pub fn of_tenths(n: u32) -> Stress
         ensures { λ r. ⌜ r ≡ stressOfTenths n ⌝ }
     {
-        Stress(10 * n)
+        Stress(10 * (n as u64))
     }
 
-    pub fn of_hundredths(n: u64) -> Stress
+    pub fn of_hundredths(n: u32) -> Stress
         ensures { λ r. ⌜ r ≡ stressOfHundredths n ⌝ }
     {
-        Stress(n)
+        Stress(n as u64)
     }
 
     pub fn in_units(self) -> u64

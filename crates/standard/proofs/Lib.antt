@@ -1,0 +1,5 @@
+pub mod Table
+pub mod Bars
+pub mod Materials
+pub mod Slenderness
+pub mod Mesh

@@ -1,0 +1,43 @@
+-- `standard::spacing_limit` meets its contract.
+use mathlib.Core.Path.{_∙_, ap}
+use Prim.Native.Nat.{ℕ}
+use borrow.Author.Needs.{needs}
+use Rattle.quantity.specs.Unit.{millimetres}
+use Rattle.standard.specs.Spacing.{byHeight, spacingLimit}
+use Rattle.standard.proofs.spacing_limit.Statement.{statement}
+use Rattle.standard.proofs.spacing_limit.Tie as tie
+
+in-millimetres-requires : tie.Need-in-millimetres-requires
+in-millimetres-requires c κs = search needs
+
+by-height-requires : tie.Need-by-height-requires
+by-height-requires c κs = search needs
+
+of-millimetres-requires : tie.Need-of-millimetres-requires
+of-millimetres-requires c κs = search needs
+
+by-height-requires-2 : tie.Need-by-height-requires-2
+by-height-requires-2 c κs = search needs
+
+of-millimetres-requires-2 : tie.Need-of-millimetres-requires-2
+of-millimetres-requires-2 c κs = search needs
+
+returns : tie.Need-returns
+unfolding spacingLimit
+returns c = rw (c .before .before .if1 .taken) (cc)
+
+returns-2 : tie.Need-returns-2
+unfolding spacingLimit
+returns-2 c = rw (c .before .before .if1 .left) (cc)
+
+pub spacing-limit-spec : {M : Type 1} → statement M
+spacing-limit-spec =
+    tie.close
+    (tie.spec
+    in-millimetres-requires
+    by-height-requires
+    of-millimetres-requires
+    by-height-requires-2
+    of-millimetres-requires-2
+    returns
+    returns-2)
