@@ -1,0 +1,110 @@
+-- The steps of `groupsAt` as the loop of `number_at` takes them, the bounds of its sums, and the inversion: what a value that was read says
+-- of the groups.
+use mathlib.Core.Path.{_≡_, refl, sym, ap, _∙_}
+use mathlib.Core.Bool.{Bool, true, false, _&&_, _||_, false≢true}
+use mathlib.Core.List.{List}
+use mathlib.Core.Logic.{_⊎_, inl, inr, ⊎-elim}
+use Prim.Native.Nat.{ℕ, suc, _+_, _-_, _*_, _^_, _≤_, _<_}
+use native.Mathlib.Nat.{pow-suc, pow-le-pow-right, mul-le-mul-right}
+use native.Mathlib.Omega.{arith}
+use lib.ListN.{length, getD}
+use lib.Dec.{leb, ltb, eqb}
+use borrow.Author.Tests.{lt-ltb, le-ltb, le-leb, lt-leb, ltb-true, ltb-false, leb-false, eqb-true}
+use Rattle.quantity.specs.Choice.{if_then_else_}
+use Rattle.question.specs.declared.Question.{Question}
+use Rattle.question.specs.declared.Question.the-variants.{NumberEnds, NumberForm}
+use Rattle.number.specs.declared.Number.{Number}
+use Rattle.number.specs.declared.Number.the-variants.{Value, Refused}
+use Rattle.number.specs.Number.{groupsAt, lastGroup}
+
+-- ---- One step.
+
+module _ (s : List ℕ) (left p w v : ℕ) (h : 0 < left) where
+  one-less : left ≡ suc (left - 1)
+  one-less = omega arith
+
+  pub file-ends : length s ≤ p → groupsAt left s p w v ≡ Refused NumberEnds
+  unfolding groupsAt
+  file-ends e = rw one-less (simp (le-leb _ _ e))
+
+  pub last-group-at : (b : ℕ) → b ≡ getD s p 0 → p < length s → b < 128 → groupsAt left s p w v ≡ lastGroup b w v (p + 1)
+  unfolding groupsAt
+  last-group-at b q e t = rw (one-less, q) (simp (lt-leb _ _ e, lt-ltb _ _ (rw q at t)))
+
+  pub group-follows : (b : ℕ) → b ≡ getD s p 0 → p < length s → 128 ≤ b
+      → groupsAt left s p w v ≡ groupsAt (left - 1) s (p + 1) (w * 128) (v + (b - 128) * w)
+  unfolding groupsAt
+  group-follows b q e t =
+      ap (λ (k : ℕ). groupsAt k s p w v) one-less ∙ rw q (simp (lt-leb _ _ e, le-ltb _ _ (rw q at t)))
+
+pub none-left : (s : List ℕ) (left p w v : ℕ) → left ≤ 0 → groupsAt left s p w v ≡ Refused NumberForm
+unfolding groupsAt
+none-left s left p w v h = let e : left ≡ 0 = omega arith in rw e
+
+-- the weight of a group, with k groups below it
+pub weight : (k : ℕ) → k < 5 → 128 ^ k ≤ 128 ^ 4
+weight k h = let e : k ≤ 4 = omega arith in pow-le-pow-right (omega arith) e
+
+pub weight-next : (left : ℕ) → 0 < left → left ≤ 5 → 128 ^ (5 - left) * 128 ≡ 128 ^ (5 - (left - 1))
+weight-next left h l =
+    let e : 5 - (left - 1) ≡ suc (5 - left) = omega arith in
+    sym (ap (λ (n : ℕ). 128 ^ n) e ∙ pow-suc 128 (5 - left))
+
+-- a group of at most 127 on top of a value below the weight
+pub below : (b w v : ℕ) → b < 128 → v < w → v + b * w < w * 128
+below b w v hb hv = let e : b ≤ 127 = omega arith in omega (arith, mul-le-mul-right w e)
+
+-- ---- Inversion.
+
+pub if-case : {A : Type 0} (P : A → Type 0) (b : Bool) (x y : A) → (b ≡ true → P x) → (b ≡ false → P y) → P (if b then x else y)
+if-case P true x y f g = f refl
+if-case P false x y f g = g refl
+
+pub refused-no-value : {q : Question} {v next : ℕ} → Refused q ≡ Value v next → ⊥
+refused-no-value r = let z : _≡_ {A = ℕ} 0 1 = cc in omega arith
+
+-- the value x, whose last group is b
+pub record Ended (b w v end x next : ℕ) : Type 0 where
+  pub value : x ≡ v + b * w
+  pub after : next ≡ end
+  pub fits : x < 2 ^ 32
+  pub form : (0 < b) ⊎ (w ≡ 1)
+
+or-and-inv : (a b c : Bool) → ((a || b) && c) ≡ true → ((a ≡ true) ⊎ (b ≡ true)) × (c ≡ true)
+or-and-inv true b true e = (inl refl, refl)
+or-and-inv true b false e = absurd (false≢true e)
+or-and-inv false true true e = (inr refl, refl)
+or-and-inv false true false e = absurd (false≢true e)
+or-and-inv false false c e = absurd (false≢true e)
+
+pub last-inv : (b w v end x next : ℕ) → lastGroup b w v end ≡ Value x next → Ended b w v end x next
+unfolding lastGroup
+last-inv b w v end x next =
+    if-case (λ (n : Number). n ≡ Value x next → Ended b w v end x next) ((ltb 0 b || eqb w 1) && ltb (v + b * w) (2 ^ 32)) _ _
+    (λ t r.
+    let e = or-and-inv _ _ _ t in
+    let a : v + b * w ≡ x = cc in
+    let n : end ≡ next = cc in
+    record {
+      value = sym a;
+      after = sym n;
+      fits = rw (← a) (ltb-true _ _ (e .1));
+      form = ⊎-elim (λ f. inl (ltb-true _ _ f)) (λ f. inr (eqb-true _ _ f)) (e .0);
+    })
+    (λ _ r. absurd (refused-no-value r))
+
+-- how a value was read from p: the group there is the last, or the groups behind it gave the value
+abbrev pub Cases : ℕ → List ℕ → ℕ → ℕ → ℕ → ℕ → ℕ → Type 0
+Cases left s p w v x next =
+    let b = getD s p 0 in
+    (p < length s) × (((b < 128) × Ended b w v (p + 1) x next)
+    ⊎ ((128 ≤ b) × (groupsAt left s (p + 1) (w * 128) (v + (b - 128) * w) ≡ Value x next)))
+
+pub groups-inv : (left : ℕ) (s : List ℕ) (p w v x next : ℕ) → groupsAt (suc left) s p w v ≡ Value x next → Cases left s p w v x next
+unfolding groupsAt
+groups-inv left s p w v x next =
+    if-case (λ (n : Number). n ≡ Value x next → Cases left s p w v x next) (leb (length s) p) _ _
+    (λ _ r. absurd (refused-no-value r))
+    (λ t. if-case (λ (n : Number). n ≡ Value x next → Cases left s p w v x next) (ltb (getD s p 0) 128) _ _
+    (λ u r. (leb-false _ _ t, inl (ltb-true _ _ u, last-inv _ _ _ _ _ _ r)))
+    (λ u r. (leb-false _ _ t, inr (ltb-false _ _ u, r))))

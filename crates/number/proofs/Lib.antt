@@ -1,0 +1,4 @@
+pub mod Groups
+pub mod Progress
+pub mod Encoded
+pub mod Examples

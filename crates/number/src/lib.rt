@@ -1,0 +1,60 @@
+// The numbers of a schedule: groups of seven bits, lowest first, the top bit set where a group follows.
+use question::Question;
+ghost use mathlib.Core.Path.{_≡_};
+ghost use Prim.Native.Nat.{_+_, _*_, _^_, _<_};
+ghost use Rattle.number.specs.Number.{numberAt, lastGroup};
+
+pub enum Number {
+    // The value, and the place after its last group.
+    Value(u32, usize),
+    // The question that is answered no: 2 or 3.
+    Refused(Question),
+}
+
+fn wide(x: u8) -> u64
+    ensures { λ r. ⌜ r ≡ x ⌝ }
+{
+    x as u64
+}
+
+// The number that ends before `next` with the group b of weight w, where v is the value of the groups below.
+fn last_group(b: u64, w: u64, v: u64, next: usize) -> Number
+    requires { ⌜ v + b * w < 2 ^ 64 ⌝ }
+    ensures { λ r. ⌜ r ≡ lastGroup b w v next ⌝ }
+{
+    if b == 0 {
+        if w != 1 {
+            return Number::Refused(Question::NumberForm);
+        }
+    }
+    let value = v + b * w;
+    if value < 4294967296 {
+        Number::Value(value as u32, next)
+    } else {
+        Number::Refused(Question::NumberForm)
+    }
+}
+
+// The number whose first group stands at `at`.
+pub fn number_at(src: &[u8], at: usize) -> Number
+    ensures { λ r. ⌜ r ≡ numberAt (now (src .entry)) at ⌝ }
+{
+    let mut left: usize = 5;
+    let mut p: usize = at;
+    let mut w: u64 = 1;
+    let mut v: u64 = 0;
+    while 0 < left {
+        if src.len() <= p {
+            return Number::Refused(Question::NumberEnds);
+        }
+        let b = wide(src[p]);
+        if b < 128 {
+            return last_group(b, w, v, p + 1);
+        }
+        v += (b - 128) * w;
+        w *= 128;
+        p += 1;
+        left -= 1;
+    }
+    Number::Refused(Question::NumberForm)
+}

@@ -1,0 +1,31 @@
+-- The numbers of the questions (document 01, "Questions before any check").
+use Prim.Native.Nat.{ℕ}
+use Rattle.question.specs.declared.Question.{Question}
+use Rattle.question.specs.declared.Question.the-variants.{
+  Size,
+  NumberEnds,
+  NumberForm,
+  Count,
+  Mark,
+  Kind,
+  Field,
+  Relation,
+  Bars,
+  Ratio,
+  Trailing,
+  Buffer,
+}
+
+abbrev pub numberOf : Question → ℕ
+numberOf Size = 1
+numberOf NumberEnds = 2
+numberOf NumberForm = 3
+numberOf Count = 4
+numberOf Mark = 5
+numberOf Kind = 6
+numberOf Field = 7
+numberOf Relation = 8
+numberOf Bars = 9
+numberOf Ratio = 10
+numberOf Trailing = 11
+numberOf Buffer = 12

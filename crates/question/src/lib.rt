@@ -1,0 +1,57 @@
+// The questions that a schedule or a member is put before any check (document 01, "Questions before any check").
+ghost use mathlib.Core.Path.{_≡_};
+ghost use Rattle.question.specs.Question.{numberOf};
+
+pub enum Question {
+    // 1: is the schedule at most 60,000 bytes?
+    Size,
+    // 2: does the number end inside the file?
+    NumberEnds,
+    // 3: is the number at most five groups, below 2^32, the last of several groups not zero?
+    NumberForm,
+    // 4: is the member count at most 500?
+    Count,
+    // 5: is the mark in range and above the one before?
+    Mark,
+    // 6: is the kind known?
+    Kind,
+    // 7: is the field in range?
+    Field,
+    // 8: do the member's fields stand in the relations that its kind asks for?
+    Relation,
+    // 9: are there at most 40 bars on each face of a beam, or in a column?
+    Bars,
+    // 10: beam: is 5·S ≤ 2·b·h0, with S the area of the tension bars?
+    Ratio,
+    // 11: is there no byte after the last member?
+    Trailing,
+    // 12: is the report buffer long enough?
+    Buffer,
+}
+
+// A no: the question, and the member's place in the schedule, from 1.
+// The place is 0 for questions 1, 4, 11 and 12, and for 2 and 3 put to the count itself.
+pub struct Refusal {
+    pub question: Question,
+    pub member: u32,
+}
+
+// The number by which document 01 names a question.
+pub fn number_of(q: Question) -> u32
+    ensures { λ r. ⌜ r ≡ numberOf q ⌝ }
+{
+    match q {
+        Question::Size => 1,
+        Question::NumberEnds => 2,
+        Question::NumberForm => 3,
+        Question::Count => 4,
+        Question::Mark => 5,
+        Question::Kind => 6,
+        Question::Field => 7,
+        Question::Relation => 8,
+        Question::Bars => 9,
+        Question::Ratio => 10,
+        Question::Trailing => 11,
+        Question::Buffer => 12,
+    }
+}
