@@ -18,7 +18,8 @@ use Rattle.number.specs.declared.Number.{Number}
 use Rattle.number.specs.declared.Number.the-variants.{Value, Refused}
 use Rattle.number.specs.Number.{numberAt, groupsAt, lastGroup}
 use Rattle.number.specs.Encoding.{groupsOf, bytesOf}
-use Rattle.number.proofs.Groups.{last-group-at, group-follows, Ended, groups-inv, if-case, refused-no-value}
+use Rattle.number.proofs.Groups.{last-group-at, group-follows, Ended, groups-inv, refused-no-value}
+use Rattle.quantity.proofs.Choice.{if-case}
 
 -- ---- Read back.
 

@@ -11,6 +11,7 @@ use lib.ListN.{length, getD}
 use lib.Dec.{leb, ltb, eqb}
 use borrow.Author.Tests.{lt-ltb, le-ltb, le-leb, lt-leb, ltb-true, ltb-false, leb-false, eqb-true}
 use Rattle.quantity.specs.Choice.{if_then_else_}
+use Rattle.quantity.proofs.Choice.{if-case}
 use Rattle.question.specs.declared.Question.{Question}
 use Rattle.question.specs.declared.Question.the-variants.{NumberEnds, NumberForm}
 use Rattle.number.specs.declared.Number.{Number}
@@ -55,10 +56,6 @@ pub below : (b w v : ℕ) → b < 128 → v < w → v + b * w < w * 128
 below b w v hb hv = let e : b ≤ 127 = omega arith in omega (arith, mul-le-mul-right w e)
 
 -- ---- Inversion.
-
-pub if-case : {A : Type 0} (P : A → Type 0) (b : Bool) (x y : A) → (b ≡ true → P x) → (b ≡ false → P y) → P (if b then x else y)
-if-case P true x y f g = f refl
-if-case P false x y f g = g refl
 
 pub refused-no-value : {q : Question} {v next : ℕ} → Refused q ≡ Value v next → ⊥
 refused-no-value r = let z : _≡_ {A = ℕ} 0 1 = cc in omega arith

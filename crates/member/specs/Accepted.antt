@@ -1,0 +1,102 @@
+-- What the checks may use of a member that passed questions 7 to 10: the ranges of document 01, "Schedule bytes", and the relations.
+use Prim.Native.Nat.{ℕ, _+_, _*_, _≤_, _<_}
+use mathlib.Core.Path.{_≡_}
+use mathlib.Core.Bool.{true}
+use mathlib.Core.List.{List, [], _∷_}
+use lib.ListN.{length}
+use Rattle.standard.specs.Bars.{areaOf}
+use Rattle.standard.specs.Table.{listed}
+use Rattle.standard.specs.Concrete.{concretes}
+use Rattle.standard.specs.Steel.{steels, linkSteels}
+use Rattle.member.specs.declared.Group.{Group}
+use Rattle.member.specs.Member.{Beam, Column, Mesh, h₀}
+use Rattle.member.specs.Sums.{barCount, area}
+
+-- a diameter of the table from lo to hi
+pub record BarFrom (lo hi d : ℕ) : Type 0 where
+  pub least : lo ≤ d
+  pub most : d ≤ hi
+  pub listed : 0 < areaOf d
+
+pub record AcceptedGroup (g : Group) : Type 0 where
+  pub diameter : BarFrom 6 50 (g .diameter)
+  pub some : 1 ≤ g .bars
+  pub most : g .bars ≤ 20
+
+abbrev pub AcceptedGroups : List Group → Type 0
+AcceptedGroups [] = Unit {0}
+AcceptedGroups (g ∷ gs) = AcceptedGroup g × AcceptedGroups gs
+
+pub record AcceptedBeam (x : Beam) : Type 0 where
+  pub b-least : 100 ≤ x .b
+  pub b-most : x .b ≤ 1000
+  pub h-least : 160 ≤ x .h
+  pub h-most : x .h ≤ 2000
+  pub bf-most : x .bf ≤ 3000
+  pub hf-most : x .hf ≤ 1000
+  pub aₛ-least : 20 ≤ x .aₛ
+  pub aₛ-most : x .aₛ ≤ 200
+  pub a′-most : x .a′ ≤ 200
+  pub concrete : listed (x .concrete) concretes ≡ true
+  pub steel : listed (x .steel) steels ≡ true
+  pub tension : AcceptedGroups (x .tension)
+  pub tension-some : 1 ≤ length (x .tension)
+  pub compression : AcceptedGroups (x .compression)
+  pub link : BarFrom 6 12 (x .link)
+  pub legs-least : 2 ≤ x .legs
+  pub legs-most : x .legs ≤ 8
+  pub s-least : 50 ≤ x .s
+  pub s-most : x .s ≤ 400
+  pub linkSteel : listed (x .linkSteel) linkSteels ≡ true
+  pub c-most : x .c ≤ 200
+  pub l₀-least : 1000 ≤ x .l₀
+  pub l₀-most : x .l₀ ≤ 12000
+  pub M-most : x .M ≤ 100000000
+  pub Mq-least : 1 ≤ x .Mq
+  pub Mq-most : x .Mq ≤ 100000000
+  pub Vd-most : x .Vd ≤ 100000000
+  pub strict-most : x .strict ≤ 1
+  -- 8
+  pub flange : x .b ≤ x .bf
+  pub web : x .bf ≡ x .b → x .hf ≡ 0
+  pub slab : 2 * x .hf ≤ x .h
+  pub no-compression : length (x .compression) ≡ 0 → x .a′ ≡ 0
+  pub faces : 2 * (x .aₛ + x .a′) ≤ x .h
+  pub slender : x .l₀ ≤ 30 * h₀ x
+  -- 9
+  pub tension-bars : barCount (x .tension) ≤ 40
+  pub compression-bars : barCount (x .compression) ≤ 40
+  -- 10
+  pub ratio : 5 * area (x .tension) ≤ 2 * x .b * h₀ x
+
+pub record AcceptedColumn (x : Column) : Type 0 where
+  pub b-least : 300 ≤ x .b
+  pub b-most : x .b ≤ 1500
+  pub h-most : x .h ≤ 1500
+  pub concrete : listed (x .concrete) concretes ≡ true
+  pub steel : listed (x .steel) steels ≡ true
+  pub groups : AcceptedGroups (x .groups)
+  pub groups-some : 1 ≤ length (x .groups)
+  pub link : BarFrom 6 12 (x .link)
+  pub s-most : x .s ≤ 600
+  pub l₀-most : x .l₀ ≤ 30000
+  pub N-most : x .N ≤ 1000000000
+  -- 8
+  pub order : x .b ≤ x .h
+  -- 9
+  pub bars : barCount (x .groups) ≤ 40
+
+pub record AcceptedMesh (x : Mesh) : Type 0 where
+  pub family-least : 1 ≤ x .family
+  pub family-most : x .family ≤ 2
+  pub concrete : listed (x .concrete) concretes ≡ true
+  pub d : BarFrom 5 16 (x .d)
+  pub cross : x .cross ≤ 1
+  pub paired : x .paired ≤ 1
+  pub apart : x .apart ≤ 1
+  pub seismic : x .seismic ≤ 4
+  pub lapping-least : 1 ≤ x .lapping
+  pub lapping-most : x .lapping ≤ 2
+  pub compression : x .compression ≤ 1
+  pub anchorage : x .anchorage ≤ 100000
+  pub lap : x .lap ≤ 100000

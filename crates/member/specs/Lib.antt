@@ -1,0 +1,4 @@
+pub mod Member
+pub mod Sums
+pub mod Questions
+pub mod Accepted
