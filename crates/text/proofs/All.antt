@@ -49,13 +49,13 @@ module _ {P : ℕ → Type 0} (test : ℕ → Bool) where
 abbrev pub Not : ℕ → ℕ → Type 0
 Not c b = b ≡ c → ⊥
 
--- a byte of a word: above the blank, the newline and the comma
-abbrev pub Ink : ℕ → Type 0
-Ink b = 44 < b
+-- a byte above the blank, and so above the newline
+abbrev pub Graphic : ℕ → Type 0
+Graphic b = 32 < b
 
-pub ink-free : (c : ℕ) {s : List ℕ} → c ≤ 44 → All Ink s → All (Not c) s
-ink-free c h a = all-weaken (λ b p e. omega arith) a
+pub graphic-free : (c : ℕ) {s : List ℕ} → c ≤ 32 → All Graphic s → All (Not c) s
+graphic-free c h a = all-weaken (λ b p e. omega arith) a
 
--- for bytes that are written out, `ink s refl`
-pub ink : (s : List ℕ) → every (ltb 44) s ≡ true → All Ink s
-ink s e = every-all (ltb 44) (ltb-true 44) s e
+-- for bytes that are written out, `graphic s refl`
+pub graphic : (s : List ℕ) → every (ltb 32) s ≡ true → All Graphic s
+graphic s e = every-all (ltb 32) (ltb-true 32) s e

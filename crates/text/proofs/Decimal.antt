@@ -1,6 +1,6 @@
 -- Laws of `decimal`: its digits, its length, and its value read back.
 use Prim.Native.Nat.{ℕ, zero, suc, _+_, _-_, _*_, _/_, _%_, _^_, _≤_, _<_}
-use mathlib.Core.Path.{_≡_, refl, sym, ap, _∙_}
+use mathlib.Core.Path.{_≡_, refl, sym, _∙_}
 use mathlib.Core.Bool.{Bool, true, false}
 use mathlib.Core.List.{List, [], _∷_, _++_}
 use native.Mathlib.Nat.{pow-suc}
@@ -8,8 +8,8 @@ use native.Mathlib.Omega.{arith}
 use lib.ListN.{length, length-append}
 use lib.Dec.{ltb}
 use borrow.Author.Tests.{ltb-true, ltb-false, le-leb}
-use Rattle.text.specs.Text.{digits, decimal, valueFrom, valueOf, every, isDigit, isDecimal}
-use Rattle.text.proofs.All.{All, all-none, all-and, all-append, all-weaken, all-every, Ink}
+use Rattle.text.specs.Text.{digits, decimal, valueFrom, valueOf, isDigit, isDecimal}
+use Rattle.text.proofs.All.{All, all-none, all-and, all-append, all-weaken, all-every, Graphic}
 
 pub lt-or-le : {P : Type 0} (n m : ℕ) → (n < m → P) → (m ≤ n → P) → P
 lt-or-le {P} n m f g = go (ltb n m) refl
@@ -32,8 +32,7 @@ digits-enough zero k zero h g = sym (digits-zero k)
 digits-enough zero k (suc v) h g = absurd (omega arith)
 digits-enough (suc j) k zero h g = sym (digits-zero k)
 digits-enough (suc j) zero (suc v) h g = absurd (omega arith)
-digits-enough (suc j) (suc k) (suc v) h g =
-    ap (λ (s : List ℕ). s ++ ((48 + suc v % 10) ∷ [])) (digits-enough j k (suc v / 10) (omega arith) (omega arith))
+digits-enough (suc j) (suc k) (suc v) h g = rw (digits-enough j k (suc v / 10) (omega arith) (omega arith))
 
 digits-decimal : (k v : ℕ) → 0 < v → v ≤ k → digits k v ≡ decimal v
 unfolding decimal
@@ -52,8 +51,7 @@ decimal-one (suc v) h =
 pub decimal-more : (v : ℕ) → 10 ≤ v → decimal v ≡ decimal (v / 10) ++ ((48 + v % 10) ∷ [])
 unfolding decimal digits
 decimal-more zero h = absurd (omega arith)
-decimal-more (suc v) h =
-    ap (λ (s : List ℕ). s ++ ((48 + suc v % 10) ∷ [])) (digits-decimal v (suc v / 10) (omega arith) (omega arith))
+decimal-more (suc v) h = rw (digits-decimal v (suc v / 10) (omega arith) (omega arith))
 
 pub decimal-induction : (P : ℕ → Type 0) → ((v : ℕ) → v < 10 → P v) → ((v : ℕ) → 10 ≤ v → P (v / 10) → P v) → (v : ℕ) → P v
 decimal-induction P one more v = go (suc v) v (omega arith)
@@ -90,8 +88,8 @@ decimal-digits = decimal-induction (λ v. All Digit (decimal v))
     (λ v h. rw (decimal-one v h) (all-and {b = 48 + v} (omega arith) all-none))
     (λ v h ih. rw (decimal-more v h) (all-append ih (all-and {b = 48 + v % 10} (omega arith) all-none)))
 
-pub decimal-ink : (v : ℕ) → All Ink (decimal v)
-decimal-ink v = all-weaken (λ b p. omega arith) (decimal-digits v)
+pub decimal-graphic : (v : ℕ) → All Graphic (decimal v)
+decimal-graphic v = all-weaken (λ b p. omega arith) (decimal-digits v)
 
 -- ---- Read back
 

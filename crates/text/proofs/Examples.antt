@@ -1,8 +1,8 @@
 -- Worked examples, by computing: document 01's printed report.
 use Prim.Native.Nat.{ℕ}
 use mathlib.Core.Path.{_≡_, refl}
-use mathlib.Core.Bool.{true, false}
-use mathlib.Core.List.{List, [], _∷_, _++_}
+use mathlib.Core.Bool.{false}
+use mathlib.Core.List.{List, [], _∷_}
 use Rattle.text.specs.Text.{digits, decimal, valueFrom, valueOf, every, isDecimal, joinedBy, endedBy, textOf, splitMore, split, lineOf, wordOf}
 
 -- the numbers 0, 10 and the largest one of 64 bits

@@ -2,4 +2,4 @@ pub mod All
 pub mod Put
 pub mod Decimal
 pub mod Split
-pub mod Examples
+mod Examples

@@ -53,6 +53,10 @@ put-then {d} {at} {s} {d₁} {p} {t} {d₂} {q} a b = record {
 pub put-length : {d : List ℕ} {at : ℕ} {s d′ : List ℕ} {r : ℕ} → Put d at s d′ r → length d′ ≡ length d
 put-length {d} {at} {s} a = rw (a .bytes) (length-sets d at s)
 
+-- what `put-none` asks, after any text
+pub put-bounds : {d : List ℕ} {at : ℕ} {s d′ : List ℕ} {r : ℕ} → Put d at s d′ r → (length d′ < lastPosition) × (r ≤ lastPosition)
+put-bounds a = omega (arith, put-length a, a .short, a .next)
+
 -- a byte past the end
 pub put-past : (d : List ℕ) {at b r : ℕ} → length d ≤ at → length d < lastPosition → r ≡ advance at 1 → Put d at (b ∷ []) d r
 put-past d {at} {b} h k e = record { bytes = sym (set-out d at b h); next = e; short = k }

@@ -6,7 +6,7 @@ use native.Mathlib.Omega.{arith}
 use lib.ListN.{getD, List·getD-map}
 use borrow.Author.Tests.{eq-eqb, ne-eqb}
 use Rattle.text.specs.Text.{splitMore, split, joinedBy, endedBy, textOf, lineOf, wordOf}
-use Rattle.text.proofs.All.{All, all-none, all-and, all-append, all-weaken, Not, Ink, ink-free}
+use Rattle.text.proofs.All.{All, all-none, all-and, all-append, all-weaken, Not, Graphic, graphic-free}
 
 -- ---- For any separator
 
@@ -54,20 +54,25 @@ joined-free c e n (all-and p (all-and q a)) = all-append p (all-and n (joined-fr
 
 -- ---- Lines of words
 
-words-free : (c : ℕ) → c ≤ 44 → {ws : List (List ℕ)} → All (All Ink) ws → All (All (Not c)) ws
-words-free c h a = all-weaken (λ s p. ink-free c h p) a
+words-free : (c : ℕ) → c ≤ 32 → {ws : List (List ℕ)} → All (All Graphic) ws → All (All (Not c)) ws
+words-free c h a = all-weaken (λ s p. graphic-free c h p) a
 
-lines-free : {ls : List (List (List ℕ))} → All (All (All Ink)) ls → All (All (Not 10)) (map (joinedBy 32) ls)
+lines-free : {ls : List (List (List ℕ))} → All (All (All Graphic)) ls → All (All (Not 10)) (map (joinedBy 32) ls)
 lines-free all-none = all-none
 lines-free (all-and p a) = all-and (joined-free 32 10 (λ e. omega arith) (words-free 10 (omega arith) p)) (lines-free a)
 
 -- the k-th word of a line
-pub read-word : (k : ℕ) {ws : List (List ℕ)} → All (All Ink) ws → wordOf k (joinedBy 32 ws) ≡ getD ws k []
+pub read-word : (k : ℕ) {ws : List (List ℕ)} → All (All Graphic) ws → wordOf k (joinedBy 32 ws) ≡ getD ws k []
 unfolding wordOf
 read-word k a = joined-piece 32 k (words-free 32 (omega arith) a)
 
+-- the lines of a text; after the last newline there is an empty piece
+pub read-lines : {ls : List (List (List ℕ))} → All (All (All Graphic)) ls → split 10 (textOf ls) ≡ map (joinedBy 32) ls ++ ([] ∷ [])
+unfolding textOf
+read-lines a = split-ended 10 (lines-free a)
+
 -- the i-th line of a text
-pub read-line : (i : ℕ) {ls : List (List (List ℕ))} → All (All (All Ink)) ls → lineOf i (textOf ls) ≡ joinedBy 32 (getD ls i [])
+pub read-line : (i : ℕ) {ls : List (List (List ℕ))} → All (All (All Graphic)) ls → lineOf i (textOf ls) ≡ joinedBy 32 (getD ls i [])
 unfolding lineOf textOf joinedBy
 read-line i {ls} a = ended-piece 10 i (lines-free a) ∙ List·getD-map (joinedBy 32) ls i []
 
@@ -77,5 +82,5 @@ all-getD n (all-and p a) zero = p
 all-getD n (all-and p a) (suc i) = all-getD n a i
 
 -- the k-th word of its i-th line
-pub read-back : (i k : ℕ) {ls : List (List (List ℕ))} → All (All (All Ink)) ls → wordOf k (lineOf i (textOf ls)) ≡ getD (getD ls i []) k []
-read-back i k a = ap (wordOf k) (read-line i a) ∙ read-word k (all-getD {P = All (All Ink)} all-none a i)
+pub read-back : (i k : ℕ) {ls : List (List (List ℕ))} → All (All (All Graphic)) ls → wordOf k (lineOf i (textOf ls)) ≡ getD (getD ls i []) k []
+read-back i k a = ap (wordOf k) (read-line i a) ∙ read-word k (all-getD {P = All (All Graphic)} all-none a i)

@@ -8,13 +8,13 @@ use Rattle.text.specs.declared.Word.{Word}
 
 -- ---- Decimal numbers
 
--- the last k digits of v, the highest first, without leading zeros; none for 0
+-- the last k digits of v, the highest first: all of them where v has fewer, none for 0
 unfoldable pub digits : ℕ → ℕ → List ℕ
 digits zero v = []
 digits (suc k) zero = []
 digits (suc k) (suc v) = digits k (suc v / 10) ++ ((48 + suc v % 10) ∷ [])
 
--- v in decimal, "0" for 0; v has at most v digits
+-- v in decimal without leading zeros, "0" for 0; a number v has at most v digits
 unfoldable pub decimal : ℕ → List ℕ
 decimal zero = 48 ∷ []
 decimal (suc v) = digits (suc v) (suc v)
@@ -41,8 +41,9 @@ unfoldable pub isDecimal : List ℕ → Bool
 isDecimal [] = false
 isDecimal (b ∷ s) = every isDigit (b ∷ s)
 
--- ---- A fixed word, held in eight bytes
+-- ---- A fixed word
 
+-- the first n of eight bytes, all of them where n is above 8
 abbrev pub wordText : Word → List ℕ
 wordText w = take (w .n) (w .b)
 

@@ -11,10 +11,6 @@ use Rattle.text.specs.Put.{Put}
 use Rattle.text.proofs.Put.{put-none, put-then, put-length}
 use Rattle.text.proofs.put_first.Statement.{statement}
 use Rattle.text.proofs.put_first.Tie as tie
-use Rattle.text.proofs.put_first.Reads as reads
-use Rattle.text.proofs.put_first.Lts as lts
-use Rattle.text.proofs.put_byte.Reads as put-byte-reads
-use Rattle.text.proofs.smaller.Reads as smaller-reads
 
 take-min : (n : ℕ) (s : List ℕ) → take (min n (length s)) s ≡ take n s
 take-min n s = min-cases n (length s) _ (λ h e. rw e) (λ h e. rw e (take-length s ∙ sym (take-all n s h)))
