@@ -1,6 +1,6 @@
 -- Laws of the sums over groups: one group more at the end, and bounds over accepted groups.
 use Prim.Native.Nat.{ℕ, zero, suc, _+_, _*_, _-_, _^_, _≤_, _<_, min, max}
-use mathlib.Core.Path.{_≡_, refl, sym, ap, _∙_}
+use mathlib.Core.Path.{_≡_, refl, sym, _∙_}
 use mathlib.Core.List.{List, [], _∷_}
 use native.Mathlib.Nat.{not-suc-le-zero, le-of-suc-le-suc, lt-of-le-of-lt, mul-le-mul, mul-add, mul-comm, mul-assoc, mul-le-mul-left}
 use native.Mathlib.Numerals.{add-one}
@@ -8,27 +8,10 @@ use native.Mathlib.Omega.{arith}
 use native.Mathlib.Decide.{decLe}
 use lib.ListN.{length, take, getD, length-take}
 use lib.Seq.{take-take, take-all, getD-take}
-use Rattle.standard.specs.Bars.{areaOf}
 use Rattle.standard.proofs.Bars.{area-most}
 use Rattle.member.specs.declared.Group.{Group}
 use Rattle.member.specs.declared.Totals.{Totals}
-use Rattle.member.specs.Sums.{
-  sumOver,
-  barsOf,
-  groupArea,
-  groupDiameters,
-  groupSquares,
-  barCount,
-  area,
-  sumD,
-  sumE,
-  largest,
-  smallest,
-  smallestUpTo,
-  added,
-  TotalsOf,
-  TotalsFit,
-}
+use Rattle.member.specs.Sums.{sumOver, barsOf, groupArea, groupDiameters, groupSquares, barCount, area, sumD, sumE, largest, smallest, smallestUpTo, added, TotalsOf, TotalsFit}
 use Rattle.member.specs.Accepted.{AcceptedGroup, AcceptedGroups}
 
 -- ---- One group more.
@@ -227,9 +210,10 @@ module _ (gs : List Group) (count i : ℕ) (four : length gs ≡ 4) (a : Accepte
   turn-requires t l e =
       let h : i < count = omega arith in
       let le : i ≤ count = omega arith in
-      let front = rw (take-take i count gs le) at (accepted-take i (take count gs) a) in
-      (totals-fit (take i gs) t front (simp length-take (omega arith)) e,
-      rw (getD-take count gs i none h) at (accepted-at (take count gs) a i (simp length-take (omega arith))))
+      let front = rw (take-take i count gs le) at (accepted-take i (take count gs) a) in (
+        totals-fit (take i gs) t front (simp length-take (omega arith)) e,
+        rw (getD-take count gs i none h) at (accepted-at (take count gs) a i (simp length-take (omega arith))),
+      )
 
 -- after the loop
 pub all-summed : (gs : List Group) (count i : ℕ) (t : Totals) → length gs ≡ 4 → i ≡ min count 4 → TotalsOf (take i gs) t → TotalsOf (take count gs) t

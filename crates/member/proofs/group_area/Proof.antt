@@ -1,12 +1,9 @@
+-- `member::group_area` meets its contract.
 use Rattle.member.specs.Sums.{groupArea}
 use Rattle.member.proofs.Groups.{fits}
 use borrow.Author.Needs.{needs}
 use Rattle.member.proofs.group_area.Statement.{statement}
 use Rattle.member.proofs.group_area.Tie as tie
-use Rattle.member.proofs.group_area.Reads as reads
-use Rattle.member.proofs.group_area.Lts as lts
-use Rattle.member.proofs.wide.Reads as wide-reads
-use Rattle.standard.proofs.area_of.Reads as area-of-reads
 
 wide-requires : tie.Need-wide-requires
 wide-requires c κs = search needs

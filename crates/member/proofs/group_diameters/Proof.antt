@@ -1,11 +1,9 @@
+-- `member::group_diameters` meets its contract.
 use Rattle.member.specs.Sums.{groupDiameters}
 use Rattle.member.proofs.Groups.{fits}
 use borrow.Author.Needs.{needs}
 use Rattle.member.proofs.group_diameters.Statement.{statement}
 use Rattle.member.proofs.group_diameters.Tie as tie
-use Rattle.member.proofs.group_diameters.Reads as reads
-use Rattle.member.proofs.group_diameters.Lts as lts
-use Rattle.member.proofs.wide.Reads as wide-reads
 
 wide-requires : tie.Need-wide-requires
 wide-requires c κs = search needs

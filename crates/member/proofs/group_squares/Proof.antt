@@ -1,15 +1,11 @@
-use Prim.Native.Nat.{_*_, _^_, _<_, _≤_}
+-- `member::group_squares` meets its contract.
 use native.Mathlib.Omega.{arith}
 use native.Mathlib.Nat.{mul-le-mul}
-use mathlib.Core.Path.{_≡_}
 use Rattle.member.specs.Sums.{groupSquares}
 use Rattle.member.proofs.Groups.{fits}
 use borrow.Author.Needs.{needs}
 use Rattle.member.proofs.group_squares.Statement.{statement}
 use Rattle.member.proofs.group_squares.Tie as tie
-use Rattle.member.proofs.group_squares.Reads as reads
-use Rattle.member.proofs.group_squares.Lts as lts
-use Rattle.member.proofs.wide.Reads as wide-reads
 
 wide-requires : tie.Need-wide-requires
 wide-requires c κs = search needs

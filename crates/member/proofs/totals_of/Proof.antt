@@ -1,18 +1,12 @@
+-- `member::totals_of` meets its contract.
 use Rattle.member.proofs.Groups.{totals-none, totals-more, turn-requires, all-summed}
-use Prim.Native.Nat.{ℕ, _+_, _-_, _≤_, _<_, min}
-use mathlib.Core.Path.{_≡_, sym, ap, _∙_}
-use native.Mathlib.Omega.{arith}
-use lib.ListN.{length, take, length-take}
-use lib.Seq.{getD-take, take-take, take-all}
+use Prim.Native.Nat.{_-_, _≤_, min}
+use mathlib.Core.Path.{_≡_}
+use lib.ListN.{take}
 use borrow.Author.Needs.{needs}
 use Rattle.member.specs.Sums.{TotalsOf}
-use Rattle.member.proofs.Groups.{accepted-at, totals-none, totals-more, totals-fit}
 use Rattle.member.proofs.totals_of.Statement.{statement}
 use Rattle.member.proofs.totals_of.Tie as tie
-use Rattle.member.proofs.totals_of.Reads as reads
-use Rattle.member.proofs.totals_of.Lts as lts
-use Rattle.member.proofs.at_most_four.Reads as at-most-four-reads
-use Rattle.member.proofs.with_group.Reads as with-group-reads
 
 abbrev Inv-loop : tie.InvT-loop
 Inv-loop count groups n t₀ i₀ t i = (i ≤ n) × (n ≡ min count 4) × TotalsOf (take i groups) t

@@ -1,16 +1,9 @@
+-- `member::with_group` meets its contract.
 use native.Mathlib.Omega.{arith}
 use Rattle.member.proofs.Groups.{area-by-bars, diameters-by-bars, squares-by-diameters}
 use borrow.Author.Needs.{needs}
 use Rattle.member.proofs.with_group.Statement.{statement}
 use Rattle.member.proofs.with_group.Tie as tie
-use Rattle.member.proofs.with_group.Reads as reads
-use Rattle.member.proofs.with_group.Lts as lts
-use Rattle.member.proofs.group_area.Reads as group-area-reads
-use Rattle.member.proofs.group_diameters.Reads as group-diameters-reads
-use Rattle.member.proofs.group_squares.Reads as group-squares-reads
-use Rattle.member.proofs.wide.Reads as wide-reads
-use Rattle.quantity.proofs.larger.Reads as larger-reads
-use Rattle.quantity.proofs.smaller.Reads as smaller-reads
 
 wide-requires : tie.Need-wide-requires
 wide-requires c κs = search needs
