@@ -3,7 +3,7 @@ use Prim.Native.Nat.{ℕ, _+_, _*_, _≤_, _<_}
 use mathlib.Core.Path.{_≡_}
 use Rattle.standard.specs.Bounds.{UsableConcrete, UsableSteel, WholeUpTo}
 use Rattle.section.specs.declared.Section.{Section}
-use Rattle.section.specs.Section.{b, h, h₀, a′, s, c, l₀, G, W, S, S′, L, E, D, M, Mq, Vd}
+use Rattle.section.specs.Section.{b, h, h₀, a′, s, c, l₀, flange, G, S, S′, L, E, D, M, Mq, Vd}
 
 pub record Bounded (x : Section) : Type 0 where
   pub b-least : 100 ≤ b x
@@ -12,8 +12,8 @@ pub record Bounded (x : Section) : Type 0 where
   pub h₀-least : 1 ≤ h₀ x
   pub h₀-most : h₀ x ≤ 2000
   pub a′-most : a′ x ≤ h₀ x
+  pub flange-most : flange x ≤ 3000000
   pub G-most : G x ≤ 5000000
-  pub W-most : W x ≤ 2 * G x
   pub S-least : 1 ≤ S x
   pub S-most : S x ≤ 800000
   pub S′-most : S′ x ≤ 800000

@@ -36,13 +36,17 @@ c x = x .c .0
 abbrev pub l₀ : Section → ℕ
 l₀ x = x .span .0
 
--- G and W, mm²; S, S' and L, tenths of mm²; E and D
+-- area of the flange beside the web, (bf-b)·hf, mm²; G = b·h + (bf-b)·hf, W = b·h + 2·(bf-b)·hf
+abbrev pub flange : Section → ℕ
+flange x = x .flange
+
 abbrev pub G : Section → ℕ
-G x = x .gross
+G x = b x * h x + flange x
 
 abbrev pub W : Section → ℕ
-W x = x .weighted
+W x = b x * h x + 2 * flange x
 
+-- S, S' and L, tenths of mm²; E and D
 abbrev pub S : Section → ℕ
 S x = x .tension
 
@@ -97,7 +101,7 @@ fyv x = inUnits (x .fyv)
 abbrev pub e : Section → ℕ
 e x = x .steel .depth
 
--- The section of a beam, for given materials: G = b·h + (bf-b)·hf, W = b·h + 2·(bf-b)·hf, L = legs times area.
+-- The section of a beam, for given materials; L = legs times area.
 abbrev pub sectionWith : Beam → Concrete → Steel → Stress → Section
 sectionWith x concrete steel fyv =
     record {
@@ -106,8 +110,7 @@ sectionWith x concrete steel fyv =
       depth = millimetres (x .h - x .aₛ);
       ac = millimetres (x .a′);
       flanged = ltb (x .b) (x .bf);
-      gross = x .b * x .h + (x .bf - x .b) * x .hf;
-      weighted = x .b * x .h + 2 * (x .bf - x .b) * x .hf;
+      flange = (x .bf - x .b) * x .hf;
       tension = area (x .tension);
       compression = area (x .compression);
       links = x .legs * areaOf (x .link);

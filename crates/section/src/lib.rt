@@ -14,9 +14,8 @@ pub struct Section {
     pub ac: Length,
     // bf > b
     pub flanged: bool,
-    // G and W, mm²
-    pub gross: u64,
-    pub weighted: u64,
+    // (bf-b)·hf, mm²
+    pub flange: u64,
     // S, S' and L, tenths of mm²
     pub tension: u64,
     pub compression: u64,
