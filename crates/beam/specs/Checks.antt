@@ -24,7 +24,7 @@ use Rattle.member.specs.Member.{Beam}
 use Rattle.section.specs.declared.Section.{Section}
 use Rattle.section.specs.Section.{sectionOf, M, Vd}
 use Rattle.bending.specs.Steps.{leastSteel, compressionDepth, isDeep, bendingCapacity}
-use Rattle.shear.specs.Steps.{shearCapacity, spacingHolds, leastLinks}
+use Rattle.shear.specs.Steps.{shearCapacity, linkSpacing, leastLinks}
 use Rattle.service.specs.Steps.{stressHolds, crackWidth, widthLimit, deflection, deflectionHolds}
 
 -- Each check, from the last to the first, with the figures before it (moment, shear, width).
@@ -53,7 +53,7 @@ fromLeastLinks x moment shear =
 
 unfoldable pub fromSpacing : Section → ℕ → ℕ → Outcome
 fromSpacing x moment shear =
-    if spacingHolds x
+    if linkSpacing x
     then fromLeastLinks x moment shear
     else outcome LinkSpacing (Reached moment) (Reached shear) Unreached Unreached
 

@@ -28,7 +28,7 @@ use Rattle.outcome.specs.Safe.{Place, capacity, extent, Safe}
 use Rattle.section.specs.declared.Section.{Section}
 use Rattle.section.specs.Section.{M, Vd}
 use Rattle.bending.specs.Exact.{deep, exactMoment, LeastSteelHolds, DepthHolds, BendingHolds}
-use Rattle.shear.specs.Exact.{exactShear, ShearHolds, SpacingHolds, LeastLinksHold}
+use Rattle.shear.specs.Exact.{exactShear, ShearHolds, LinkSpacingHolds, LeastLinksHold}
 use Rattle.service.specs.Exact.{
   exactWidth,
   exactDeflection,
@@ -60,7 +60,7 @@ pub record BeamHolds (x : Section) : Type 0 where
   pub depth : DepthHolds x
   pub bending : BendingHolds x
   pub shear : ShearHolds x
-  pub spacing : SpacingHolds x
+  pub spacing : LinkSpacingHolds x
   pub least-links : LeastLinksHold x
   pub stress : StressHolds x
   pub width : WidthHolds x
@@ -75,7 +75,7 @@ BeamDoubted CompressionDepth x = DepthHolds x → ⊥
 BeamDoubted Bending x = (deep x ≡ true) × (exactMoment x ⊖ whole (M x) ≺ whole 1)
 BeamDoubted ShallowBending x = (deep x ≡ false) × (exactMoment x ⊖ whole (M x) ≺ whole 1)
 BeamDoubted Shear x = exactShear x ⊖ whole (Vd x) ≺ whole 2
-BeamDoubted LinkSpacing x = SpacingHolds x → ⊥
+BeamDoubted LinkSpacing x = LinkSpacingHolds x → ⊥
 BeamDoubted LeastLinks x = LeastLinksHold x → ⊥
 BeamDoubted ServiceStress x = StressHolds x → ⊥
 BeamDoubted CrackWidth x = WidthDoubted x

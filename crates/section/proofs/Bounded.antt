@@ -1,5 +1,5 @@
 -- The section of an accepted beam keeps the bounds that the checks use.
-use Prim.Native.Nat.{ℕ, _+_, _-_, _*_, _≤_, _<_}
+use Prim.Native.Nat.{_-_}
 use mathlib.Core.Path.{_≡_}
 use native.Mathlib.Omega.{arith}
 use lib.ListN.{length}
@@ -8,7 +8,7 @@ use Rattle.standard.specs.Bars.{areaOf}
 use Rattle.standard.proofs.Bars.{link-area-most}
 use Rattle.standard.proofs.Materials.{usable-concrete, usable-steel, usable-links}
 use Rattle.member.specs.Member.{Beam}
-use Rattle.member.specs.Sums.{area, barCount}
+use Rattle.member.specs.Sums.{area}
 use Rattle.member.specs.Accepted.{AcceptedBeam}
 use Rattle.member.proofs.Groups.{sums, some-bars, bars-least, area-least-by-bars}
 use Rattle.member.proofs.Accepted.{depth-least}

@@ -1,42 +1,22 @@
 -- The service figures are safe, and what their checks say of the exact inequalities; the sizes of the steps.
-use Prim.Native.Nat.{ℕ, _+_, _-_, _*_, _^_, _<_, _≤_}
-use mathlib.Core.Path.{_≡_, refl, sym, ap, _∙_}
+use Prim.Native.Nat.{ℕ, _-_, _*_, _^_, _<_, _≤_}
+use mathlib.Core.Path.{_≡_, refl}
 use mathlib.Core.Bool.{Bool, true, false}
 use native.Mathlib.Nat.{mul-pos, mul-le-mul-right, le-of-mul-le-mul-left}
 use native.Mathlib.Omega.{arith}
 use lib.Dec.{leb, ltb, eqb}
 use borrow.Author.Tests.{leb-true, leb-false}
 use Rattle.quantity.specs.Choice.{if_then_else_}
-use Rattle.quantity.specs.Fraction.{Frac, _//_, whole, Proper, _⊖_, _⊗_, _≼_, _≺_}
+use Rattle.quantity.specs.Fraction.{Frac, _//_, whole, Proper, _⊗_, _≼_, _≺_}
 use Rattle.quantity.specs.Safe.{NotBelow}
 use Rattle.quantity.proofs.Rounding.{expand, up-le}
 use Rattle.quantity.proofs.Fraction.{same-sym}
 use Rattle.quantity.proofs.Near.{Near, near-same, near-not-below}
 use Rattle.quantity.proofs.Safe.{limit-pass, limit-fail}
 use Rattle.section.specs.declared.Section.{Section}
-use Rattle.section.specs.Section.{b, h, h₀, l₀, c, flange, G, W, S, S′, E, D, Mq, ftk, Ec, fyk}
+use Rattle.section.specs.Section.{b, h, h₀, l₀, c, G, W, S, S′, E, D, Mq, ftk, Ec, fyk}
 use Rattle.section.specs.Bounded.{Bounded}
-use Rattle.service.specs.Steps.{
-  stressHolds,
-  steelStress,
-  stiffening,
-  meanStress,
-  crackSpacing,
-  widthOf,
-  σ,
-  q,
-  crackWidth,
-  widthLimit,
-  flexibility,
-  curvature,
-  shortTerm,
-  longTerm,
-  deflectionOf,
-  deflection,
-  bySpan,
-  spanDivisor,
-  deflectionHolds,
-}
+use Rattle.service.specs.Steps.{stressHolds, steelStress, crackSpacing, σ, q, crackWidth, widthLimit, flexibility, curvature, deflection, spanDivisor, deflectionHolds}
 use Rattle.service.specs.Exact.{
   exactWidth,
   exactWidthLimit,
@@ -48,26 +28,7 @@ use Rattle.service.specs.Exact.{
   WidthDoubted,
   DeflectionDoubted,
 }
-use Rattle.service.proofs.Rounded.{
-  stress*,
-  stiffening*,
-  mean*,
-  spacing*,
-  flexibility*,
-  curvature*,
-  short*,
-  long*,
-  near-stress,
-  near-stiffening,
-  near-mean,
-  near-spacing,
-  near-width,
-  near-flexibility,
-  near-curvature,
-  near-short,
-  near-long,
-  near-deflection,
-}
+use Rattle.service.proofs.Rounded.{stress*, stiffening*, mean*, spacing*, flexibility*, curvature*, near-stress, near-stiffening, near-mean, near-spacing, near-width, near-flexibility, near-curvature, near-short, near-long, near-deflection}
 use Rattle.service.proofs.Sizes.{divisor-between}
 use Rattle.service.proofs.Clause.{width-same, deflection-same}
 

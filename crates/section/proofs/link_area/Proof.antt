@@ -1,4 +1,3 @@
-use Prim.Native.Nat.{_*_, _≤_}
 use native.Mathlib.Omega.{arith}
 use Rattle.quantity.proofs.Product.{product-most}
 use Rattle.standard.proofs.Bars.{area-most}
