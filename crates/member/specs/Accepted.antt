@@ -27,6 +27,16 @@ abbrev pub AcceptedGroups : List Group → Type 0
 AcceptedGroups [] = Unit {0}
 AcceptedGroups (g ∷ gs) = AcceptedGroup g × AcceptedGroups gs
 
+-- Of the ranges of question 7 those that 8 to 10 are worked with.
+pub record BeamInRange (x : Beam) : Type 0 where
+  pub b-most : x .b ≤ 1000
+  pub h-most : x .h ≤ 2000
+  pub hf-most : x .hf ≤ 1000
+  pub aₛ-most : x .aₛ ≤ 200
+  pub a′-most : x .a′ ≤ 200
+  pub tension : AcceptedGroups (x .tension)
+  pub compression : AcceptedGroups (x .compression)
+
 pub record AcceptedBeam (x : Beam) : Type 0 where
   pub b-least : 100 ≤ x .b
   pub b-most : x .b ≤ 1000

@@ -1,7 +1,6 @@
 -- Questions 8, 9 and 10 (document 01, "Questions before any check"), put to a whole member.
-use Prim.Native.Nat.{ℕ, _+_, _-_, _*_}
-use mathlib.Core.Bool.{Bool, true, _&&_, _||_}
-use mathlib.Core.List.{List}
+use Prim.Native.Nat.{_+_, _*_}
+use mathlib.Core.Bool.{Bool, _&&_, _||_}
 use lib.Dec.{leb, ltb, eqb}
 use lib.ListN.{length}
 use Rattle.quantity.specs.Choice.{if_then_else_}

@@ -1,8 +1,10 @@
 -- Sums over groups of bars.
-use Prim.Native.Nat.{ℕ, _+_, _*_, min, max}
+use Prim.Native.Nat.{ℕ, _+_, _*_, _^_, _<_, min, max}
+use mathlib.Core.Path.{_≡_}
 use mathlib.Core.List.{List, [], _∷_}
 use Rattle.standard.specs.Bars.{areaOf}
 use Rattle.member.specs.declared.Group.{Group}
+use Rattle.member.specs.declared.Totals.{Totals}
 
 abbrev pub sumOver : (Group → ℕ) → List Group → ℕ
 sumOver f [] = 0
@@ -46,3 +48,31 @@ smallestUpTo n (g ∷ gs) = min (g .diameter) (smallestUpTo n gs)
 -- no bar is thicker than 50 mm
 abbrev pub smallest : List Group → ℕ
 smallest gs = smallestUpTo 50 gs
+
+-- The totals of a list of groups.
+pub record TotalsOf (gs : List Group) (t : Totals) : Type 0 where
+  pub n : t .bars ≡ barCount gs
+  pub S : t .area ≡ area gs
+  pub D : t .diameters ≡ sumD gs
+  pub E : t .squares ≡ sumE gs
+  pub largest-is : t .largest ≡ largest gs
+  pub smallest-is : t .smallest ≡ smallest gs
+
+-- The totals with one group more.
+abbrev pub added : Totals → Group → Totals
+added t g =
+    record {
+      bars = t .bars + g .bars;
+      area = t .area + groupArea g;
+      diameters = t .diameters + groupDiameters g;
+      squares = t .squares + groupSquares g;
+      largest = max (t .largest) (g .diameter);
+      smallest = min (t .smallest) (g .diameter);
+    }
+
+-- Room in 64 bits for one group more.
+pub record TotalsFit (t : Totals) : Type 0 where
+  pub n : t .bars < 2 ^ 32
+  pub S : t .area < 2 ^ 32
+  pub D : t .diameters < 2 ^ 32
+  pub E : t .squares < 2 ^ 32

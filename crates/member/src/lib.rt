@@ -1,7 +1,18 @@
 // Members of a schedule by value: beams, columns and meshes with their groups of bars; sums over groups; questions 8 to 10.
 ghost use mathlib.Core.Path.{_≡_};
+ghost use mathlib.Core.Bool.{true, _&&_, _||_};
+ghost use Prim.Native.Nat.{min};
+ghost use lib.Dec.{eqb};
+ghost use lib.ListN.{take, length};
+ghost use Rattle.member.specs.Member.{h₀, beamOf, columnOf, meshOf};
+ghost use Rattle.member.specs.Sums.{barCount, area, sumD, sumE, largest, smallest, groupArea, groupDiameters, groupSquares, added, TotalsFit, TotalsOf};
+ghost use Rattle.member.specs.Questions.{flangeFits, compressionFits, depthFits, beamRelation, beamBars, beamRatio, columnRelation, columnBars, meshRelation};
+ghost use Rattle.member.specs.Accepted.{AcceptedGroup, AcceptedGroups, BeamInRange};
 use quantity::Force;
 use quantity::Length;
+use quantity::larger;
+use quantity::smaller;
+use standard::area_of;
 
 // Bars of one diameter (mm).
 #[repr(C)]
@@ -67,4 +78,254 @@ pub struct Mesh {
     pub compression: u32,
     pub anchorage: Length,
     pub lap: Length,
+}
+
+// Over groups of bars: their number, their area (tenths of mm²), n·d, n·d², and the largest and the smallest diameter.
+pub struct Totals {
+    pub bars: u64,
+    pub area: u64,
+    pub diameters: u64,
+    pub squares: u64,
+    pub largest: u64,
+    pub smallest: u64,
+}
+
+fn wide(x: u32) -> u64
+    ensures { λ r. ⌜ r ≡ x ⌝ }
+{
+    x as u64
+}
+
+fn group_area(g: Group) -> u64
+    ensures { λ r. ⌜ r ≡ groupArea g ⌝ }
+{
+    wide(g.bars) * wide(area_of(g.diameter))
+}
+
+fn group_diameters(g: Group) -> u64
+    ensures { λ r. ⌜ r ≡ groupDiameters g ⌝ }
+{
+    wide(g.bars) * wide(g.diameter)
+}
+
+fn group_squares(g: Group) -> u64
+    requires { ⌜ AcceptedGroup g ⌝ }
+    ensures { λ r. ⌜ r ≡ groupSquares g ⌝ }
+{
+    wide(g.bars) * (wide(g.diameter) * wide(g.diameter))
+}
+
+// The totals with one group more.
+fn with_group(t: Totals, g: Group) -> Totals
+    requires { ⌜ TotalsFit t × AcceptedGroup g ⌝ }
+    ensures { λ r. ⌜ r ≡ added t g ⌝ }
+{
+    Totals {
+        bars: t.bars + wide(g.bars),
+        area: t.area + group_area(g),
+        diameters: t.diameters + group_diameters(g),
+        squares: t.squares + group_squares(g),
+        largest: larger(t.largest, wide(g.diameter)),
+        smallest: smaller(t.smallest, wide(g.diameter)),
+    }
+}
+
+fn at_most_four(count: usize) -> usize
+    ensures { λ r. ⌜ r ≡ min count 4 ⌝ }
+{
+    if count < 4 { count } else { 4 }
+}
+
+// The totals of the first `count` groups.
+pub fn totals_of(groups: [Group; 4], count: usize) -> Totals
+    requires { ⌜ AcceptedGroups (take count groups) ⌝ }
+    ensures { λ r. ⌜ TotalsOf (take count groups) r ⌝ }
+{
+    let n = at_most_four(count);
+    let mut t = Totals {
+        bars: 0,
+        area: 0,
+        diameters: 0,
+        squares: 0,
+        largest: 0,
+        smallest: 50,
+    };
+    let mut i: usize = 0;
+    while i < n {
+        t = with_group(t, groups[i]);
+        i += 1;
+    }
+    t
+}
+
+// The number of bars.
+pub fn bar_count(groups: [Group; 4], count: usize) -> u64
+    requires { ⌜ AcceptedGroups (take count groups) ⌝ }
+    ensures { λ r. ⌜ r ≡ barCount (take count groups) ⌝ }
+{
+    totals_of(groups, count).bars
+}
+
+// S or S', in tenths of mm².
+pub fn steel_area(groups: [Group; 4], count: usize) -> u64
+    requires { ⌜ AcceptedGroups (take count groups) ⌝ }
+    ensures { λ r. ⌜ r ≡ area (take count groups) ⌝ }
+{
+    totals_of(groups, count).area
+}
+
+// D, the sum of n·d.
+pub fn sum_diameters(groups: [Group; 4], count: usize) -> u64
+    requires { ⌜ AcceptedGroups (take count groups) ⌝ }
+    ensures { λ r. ⌜ r ≡ sumD (take count groups) ⌝ }
+{
+    totals_of(groups, count).diameters
+}
+
+// E, the sum of n·d².
+pub fn sum_squares(groups: [Group; 4], count: usize) -> u64
+    requires { ⌜ AcceptedGroups (take count groups) ⌝ }
+    ensures { λ r. ⌜ r ≡ sumE (take count groups) ⌝ }
+{
+    totals_of(groups, count).squares
+}
+
+// The largest diameter, 0 without groups.
+pub fn largest_diameter(groups: [Group; 4], count: usize) -> u64
+    requires { ⌜ AcceptedGroups (take count groups) ⌝ }
+    ensures { λ r. ⌜ r ≡ largest (take count groups) ⌝ }
+{
+    totals_of(groups, count).largest
+}
+
+// The smallest diameter, 50 without groups.
+pub fn smallest_diameter(groups: [Group; 4], count: usize) -> u64
+    requires { ⌜ AcceptedGroups (take count groups) ⌝ }
+    ensures { λ r. ⌜ r ≡ smallest (take count groups) ⌝ }
+{
+    totals_of(groups, count).smallest
+}
+
+fn no_groups(groups: [Group; 4], count: usize) -> bool
+    ensures { λ r. ⌜ r ≡ eqb (length (take count groups)) 0 ⌝ }
+{
+    count == 0
+}
+
+// h0 = h - as.
+pub fn effective_depth(x: Beam) -> Length
+    ensures { λ r. ⌜ r .0 ≡ h₀ (beamOf x) ⌝ }
+{
+    x.h.minus(x.at)
+}
+
+fn both(a: bool, b: bool) -> bool
+    ensures { λ r. ⌜ r ≡ (a && b) ⌝ }
+{
+    if a { b } else { false }
+}
+
+fn either(a: bool, b: bool) -> bool
+    ensures { λ r. ⌜ r ≡ (a || b) ⌝ }
+{
+    if a { true } else { b }
+}
+
+// 8, the flange: bf ≥ b; hf = 0 if bf = b, else 1 ≤ hf ≤ h/2.
+fn flange_fits(x: Beam) -> bool
+    requires { ⌜ BeamInRange (beamOf x) ⌝ }
+    ensures { λ r. ⌜ r ≡ flangeFits (beamOf x) ⌝ }
+{
+    let b = x.b.in_millimetres();
+    let bf = x.bf.in_millimetres();
+    let hf = x.hf.in_millimetres();
+    if bf < b {
+        return false;
+    }
+    if bf == b {
+        return hf == 0;
+    }
+    if hf < 1 {
+        return false;
+    }
+    2 * hf <= x.h.in_millimetres()
+}
+
+// 8, the compression steel: a' = 0 exactly without its groups.
+fn compression_fits(x: Beam) -> bool
+    ensures { λ r. ⌜ r ≡ compressionFits (beamOf x) ⌝ }
+{
+    let ac = x.ac.in_millimetres();
+    let compression = x.compression;
+    if no_groups(compression, x.compressions) {
+        ac == 0
+    } else {
+        0 < ac
+    }
+}
+
+// 8, the depth: as + a' ≤ h/2; c < as; l0 ≤ 30·h0.
+fn depth_fits(x: Beam) -> bool
+    requires { ⌜ BeamInRange (beamOf x) ⌝ }
+    ensures { λ r. ⌜ r ≡ depthFits (beamOf x) ⌝ }
+{
+    let h = x.h.in_millimetres();
+    let at = x.at.in_millimetres();
+    let faces = 2 * (at + x.ac.in_millimetres()) <= h;
+    let cover = x.c.in_millimetres() < at;
+    let slender = x.span.in_millimetres() <= 30 * effective_depth(x).in_millimetres();
+    both(faces, both(cover, slender))
+}
+
+// 8, of a beam.
+pub fn beam_relation(x: Beam) -> bool
+    requires { ⌜ BeamInRange (beamOf x) ⌝ }
+    ensures { λ r. ⌜ r ≡ beamRelation (beamOf x) ⌝ }
+{
+    both(flange_fits(x), both(compression_fits(x), depth_fits(x)))
+}
+
+// 9, of a beam.
+pub fn beam_bars(x: Beam) -> bool
+    requires { ⌜ BeamInRange (beamOf x) ⌝ }
+    ensures { λ r. ⌜ r ≡ beamBars (beamOf x) ⌝ }
+{
+    let tension = x.tension;
+    let compression = x.compression;
+    let below = bar_count(tension, x.tensions) <= 40;
+    let above = bar_count(compression, x.compressions) <= 40;
+    both(below, above)
+}
+
+// 10, of a beam.
+pub fn beam_ratio(x: Beam) -> bool
+    requires { ⌜ BeamInRange (beamOf x) × (beamBars (beamOf x) ≡ true) ⌝ }
+    ensures { λ r. ⌜ r ≡ beamRatio (beamOf x) ⌝ }
+{
+    let b = x.b.in_millimetres();
+    let tension = x.tension;
+    5 * steel_area(tension, x.tensions) <= 2 * b * effective_depth(x).in_millimetres()
+}
+
+// 8, of a column: b ≤ h.
+pub fn column_relation(x: Column) -> bool
+    ensures { λ r. ⌜ r ≡ columnRelation (columnOf x) ⌝ }
+{
+    x.b.in_millimetres() <= x.h.in_millimetres()
+}
+
+// 9, of a column.
+pub fn column_bars(x: Column) -> bool
+    requires { ⌜ AcceptedGroups (columnOf x .groups) ⌝ }
+    ensures { λ r. ⌜ r ≡ columnBars (columnOf x) ⌝ }
+{
+    let groups = x.groups;
+    bar_count(groups, x.count) <= 40
+}
+
+// 8, of a mesh: apart = 0 unless cross bar = 0.
+pub fn mesh_relation(x: Mesh) -> bool
+    ensures { λ r. ⌜ r ≡ meshRelation (meshOf x) ⌝ }
+{
+    either(x.apart == 0, x.cross == 0)
 }

@@ -1,0 +1,32 @@
+-- `member::group_squares` meets its contract.
+use native.Mathlib.Omega.{arith}
+use native.Mathlib.Nat.{mul-le-mul}
+use Rattle.member.specs.Sums.{groupSquares}
+use Rattle.member.proofs.Groups.{fits}
+use borrow.Author.Needs.{needs}
+use Rattle.member.proofs.group_squares.Statement.{statement}
+use Rattle.member.proofs.group_squares.Tie as tie
+
+wide-requires : tie.Need-wide-requires
+wide-requires c κs = search needs
+
+wide-requires-2 : tie.Need-wide-requires-2
+wide-requires-2 c κs = search needs
+
+wide-requires-3 : tie.Need-wide-requires-3
+wide-requires-3 c κs = search needs
+
+mul-result : tie.Need-mul-result
+mul-result c = record { fits = fits _ _ (search needs) (search needs) }
+
+mul-result-2 : tie.Need-mul-result-2
+mul-result-2 c = record { fits = fits _ _ (search needs) (omega (arith, mul-le-mul {n₁ = c .before .wide2 .result} {m₁ = c .wide3 .result} {n₂ = 50} {m₂ = 50} (omega arith) (omega arith))) }
+
+returns : tie.Need-returns
+unfolding groupSquares
+returns c = rw (c .before .before .wide .ensures, c .before .wide2 .ensures, c .wide3 .ensures)
+
+pub group-squares-spec : {M : Type 1} → statement M
+group-squares-spec =
+    tie.close
+    (tie.spec wide-requires wide-requires-2 wide-requires-3 mul-result mul-result-2 returns)
