@@ -19,6 +19,7 @@ C x = exactStress (x .steel .fyc) ⊗ (S′ x // 10)
 unfoldable pub K : Section → Frac
 K x = exactStress (x .concrete .fc) ⊗ whole (b x)
 
+-- p ≤ q as a test
 abbrev pub atMost : Frac → Frac → Bool
 atMost p q = leb (p .num * q .den) (q .num * p .den)
 
@@ -26,7 +27,7 @@ atMost p q = leb (p .num * q .den) (q .num * p .den)
 unfoldable pub deep : Section → Bool
 deep x = eqb (S′ x) 0 || atMost (C x ⊕ whole (2 * a′ x) ⊗ K x) (T x)
 
--- 4.2.2: ((T - C)·h0 + C·(h0 - a') - (T - C)²/(2·K))/1000
+-- 4.2.2: ((T - C)·h0 + C·(h0 - a') - (T - C)²/(2·K))/1000; T is not below C there
 unfoldable pub deepMoment : Section → Frac
 deepMoment x =
     let t = T x ⊖ C x in

@@ -41,7 +41,9 @@ add-result c =
 
 returns : tie.Need-returns
 unfolding compressionDepth
-returns c = cc
+returns c =
+    let s = c .before .before in
+    rw (c .compression-force .ensures, c .before .tension-force .ensures, s .crushing-force .ensures, s .before .in-millimetres .ensures)
 
 pub compression-depth-spec : {M : Type 1} → statement M
 compression-depth-spec =

@@ -20,7 +20,7 @@ div-down-requires c κs = search needs
 
 returns : tie.Need-returns
 unfolding shallowCapacity
-returns c = cc
+returns c = rw (c .div-down .ensures, c .before .lever-arm .ensures, c .before .before .tension-force .ensures)
 
 pub shallow-capacity-spec : {M : Type 1} → statement M
 shallow-capacity-spec =

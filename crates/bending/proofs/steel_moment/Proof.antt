@@ -34,7 +34,9 @@ add-result c =
     (omega (arith, steel-most (s .before .pre .0) (s .before .pre .1)))
 
 returns : tie.Need-returns
-returns c = cc
+returns c =
+    let s = c .before .before .before in
+    rw (c .lever-arm .ensures, c .before .compression-force .ensures, c .before .before .in-millimetres .ensures, s .net-tension .ensures)
 
 pub steel-moment-spec : {M : Type 1} → statement M
 steel-moment-spec =

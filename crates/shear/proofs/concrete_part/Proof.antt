@@ -27,7 +27,7 @@ mul-result-3 c =
     rw (s .in-hundredths .ensures, c .before .in-millimetres .ensures, c .in-millimetres2 .ensures) (omega (arith, sizes (s .before .pre)))
 
 returns : tie.Need-returns
-returns c = cc
+returns c = rw (c .before .before .in-hundredths .ensures, c .before .in-millimetres .ensures, c .in-millimetres2 .ensures)
 
 pub concrete-part-spec : {M : Type 1} → statement M
 concrete-part-spec =

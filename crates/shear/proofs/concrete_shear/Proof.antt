@@ -15,7 +15,7 @@ of-newtons-requires c κs = search needs
 
 returns : tie.Need-returns
 unfolding concreteShear
-returns c = cc
+returns c = rw (c .of-newtons .ensures, c .before .div-down .ensures, c .before .before .concrete-part .ensures)
 
 pub concrete-shear-spec : {M : Type 1} → statement M
 concrete-shear-spec =

@@ -34,7 +34,9 @@ of-newtons-requires c κs = search needs
 
 returns : tie.Need-returns
 unfolding linkShear
-returns c = cc
+returns c =
+    let s = c .before .before in
+    rw (c .of-newtons .ensures, c .before .div-down .ensures, s .in-millimetres2 .ensures, s .before .in-millimetres .ensures, s .before .before .before .in-units .ensures)
 
 pub link-shear-spec : {M : Type 1} → statement M
 link-shear-spec =

@@ -36,7 +36,9 @@ mul-result-3 : tie.Need-mul-result-3
 mul-result-3 c = rw (c .in-units .ensures) (omega (arith, sizes (c .before .before .before .before .before .pre)))
 
 returns : tie.Need-returns
-returns c = cc
+returns c =
+    let s = c .before .before in
+    rw (c .in-units .ensures, s .in-millimetres2 .ensures, s .before .in-millimetres .ensures, s .before .before .in-hundredths .ensures)
 
 pub links-suffice-spec : {M : Type 1} → statement M
 links-suffice-spec =

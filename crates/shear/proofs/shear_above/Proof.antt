@@ -15,7 +15,7 @@ mul-result c = search needs
 
 returns : tie.Need-returns
 unfolding shearAbove
-returns c = cc
+returns c = rw (c .before .concrete-part .ensures, c .in-newtons .ensures)
 
 pub shear-above-spec : {M : Type 1} → statement M
 shear-above-spec =
