@@ -16,12 +16,6 @@ use Rattle.outcome.specs.declared.Check.the-variants.{
   ServiceStress,
   CrackWidth,
   Deflection,
-  MostSteel,
-  ColumnLinks,
-  Slenderness,
-  AxialForce,
-  Anchorage,
-  Lap,
 }
 use Rattle.outcome.specs.declared.Outcome.{Outcome}
 use Rattle.outcome.specs.Safe.{Place, capacity, extent, Safe}
@@ -31,14 +25,14 @@ use Rattle.bending.specs.Exact.{deep, exactMoment, LeastSteelHolds, DepthHolds,
 use Rattle.shear.specs.Exact.{exactShear, ShearHolds, LinkSpacingHolds, LeastLinksHold}
 use Rattle.service.specs.Exact.{
   exactWidth,
+  exactWidthLimit,
   exactDeflection,
+  exactDeflectionLimit,
   inThousandths,
   inHundredthsOfMm,
   StressHolds,
   WidthHolds,
   DeflectionHolds,
-  WidthDoubted,
-  DeflectionDoubted,
 }
 
 -- the four places of the line: moment below 1 N·m, shear below 2 N, width below 0.0011 mm, deflection below 0.012 mm
@@ -66,31 +60,26 @@ pub record BeamHolds (x : Section) : Type 0 where
   pub width : WidthHolds x
   pub deflection : DeflectionHolds x
 
--- what a named check allows: its exact inequality fails, or, where it has a figure, holds by less than the figure's distance
--- (the difference is 0 where it fails)
-abbrev pub BeamDoubted : Check → Section → Type 0
-BeamDoubted Passed x = Unit {0}
-BeamDoubted LeastSteel x = LeastSteelHolds x → ⊥
-BeamDoubted CompressionDepth x = DepthHolds x → ⊥
-BeamDoubted Bending x = (deep x ≡ true) × (exactMoment x ⊖ whole (M x) ≺ whole 1)
-BeamDoubted ShallowBending x = (deep x ≡ false) × (exactMoment x ⊖ whole (M x) ≺ whole 1)
-BeamDoubted Shear x = exactShear x ⊖ whole (Vd x) ≺ whole 2
-BeamDoubted LinkSpacing x = LinkSpacingHolds x → ⊥
-BeamDoubted LeastLinks x = LeastLinksHold x → ⊥
-BeamDoubted ServiceStress x = StressHolds x → ⊥
-BeamDoubted CrackWidth x = WidthDoubted x
-BeamDoubted Deflection x = DeflectionDoubted x
-BeamDoubted MostSteel x = ⊥
-BeamDoubted ColumnLinks x = ⊥
-BeamDoubted Slenderness x = ⊥
-BeamDoubted AxialForce x = ⊥
-BeamDoubted Anchorage x = ⊥
-BeamDoubted Lap x = ⊥
+-- the check that may be named: one whose exact inequality fails, or, with a figure, holds by less than the figure's distance
+-- (the difference is 0 where it fails); with OK none is named
+pub data MayName (x : Section) : Check → Type 0 where
+  none : MayName x Passed
+  least-steel : (LeastSteelHolds x → ⊥) → MayName x LeastSteel
+  depth : (DepthHolds x → ⊥) → MayName x CompressionDepth
+  bending : deep x ≡ true → exactMoment x ⊖ whole (M x) ≺ whole 1 → MayName x Bending
+  shallow-bending : deep x ≡ false → exactMoment x ⊖ whole (M x) ≺ whole 1 → MayName x ShallowBending
+  shear : exactShear x ⊖ whole (Vd x) ≺ whole 2 → MayName x Shear
+  spacing : (LinkSpacingHolds x → ⊥) → MayName x LinkSpacing
+  least-links : (LeastLinksHold x → ⊥) → MayName x LeastLinks
+  stress : (StressHolds x → ⊥) → MayName x ServiceStress
+  width : inThousandths (exactWidthLimit x) ⊖ inThousandths (exactWidth x) ≺ 11 // 10 → MayName x CrackWidth
+  deflection : inHundredthsOfMm (exactDeflectionLimit x) ⊖ inHundredthsOfMm (exactDeflection x) ≺ 12 // 10 → MayName x Deflection
 
+-- demand 3 for the outcome of a beam
 pub record SafeBeam (x : Section) (o : Outcome) : Type 0 where
-  pub moment : Safe (o .first) (momentPlace x)
-  pub shear : Safe (o .second) (shearPlace x)
-  pub width : Safe (o .third) (widthPlace x)
-  pub deflection : Safe (o .fourth) (deflectionPlace x)
+  pub first : Safe (o .first) (momentPlace x)
+  pub second : Safe (o .second) (shearPlace x)
+  pub third : Safe (o .third) (widthPlace x)
+  pub fourth : Safe (o .fourth) (deflectionPlace x)
   pub passed : o .check ≡ Passed → BeamHolds x
-  pub named : BeamDoubted (o .check) x
+  pub named : MayName x (o .check)
