@@ -1,4 +1,5 @@
 pub mod Choice
 pub mod Rounding
 pub mod Fraction
+pub mod Safe
 pub mod Unit

@@ -1,0 +1,71 @@
+-- The outcome of a member's checks, and the name by which document 01 prints each check.
+use Prim.Native.Nat.{ℕ}
+use mathlib.Core.List.{List, [], _∷_}
+use Rattle.outcome.specs.declared.Check.{Check}
+use Rattle.outcome.specs.declared.Check.the-variants.{
+  Passed,
+  LeastSteel,
+  CompressionDepth,
+  Bending,
+  ShallowBending,
+  Shear,
+  LinkSpacing,
+  LeastLinks,
+  ServiceStress,
+  CrackWidth,
+  Deflection,
+  MostSteel,
+  ColumnLinks,
+  Slenderness,
+  AxialForce,
+  Anchorage,
+  Lap,
+}
+use Rattle.outcome.specs.declared.Figure.{Figure}
+use Rattle.outcome.specs.declared.Figure.the-variants.{Unreached}
+use Rattle.outcome.specs.declared.Outcome.{Outcome}
+
+abbrev pub outcome : Check → Figure → Figure → Figure → Figure → Outcome
+outcome check first second third fourth =
+    record { check = check; first = first; second = second; third = third; fourth = fourth }
+
+-- no figure was reached
+abbrev pub stopped : Check → Outcome
+stopped check = outcome check Unreached Unreached Unreached Unreached
+
+-- the printed word, in bytes
+abbrev pub nameOf : Check → List ℕ
+-- OK
+nameOf Passed = 79 ∷ 75 ∷ []
+-- 6.3.1
+nameOf LeastSteel = 54 ∷ 46 ∷ 51 ∷ 46 ∷ 49 ∷ []
+-- 4.2.2-3
+nameOf CompressionDepth = 52 ∷ 46 ∷ 50 ∷ 46 ∷ 50 ∷ 45 ∷ 51 ∷ []
+-- 4.2.2
+nameOf Bending = 52 ∷ 46 ∷ 50 ∷ 46 ∷ 50 ∷ []
+-- 4.2.3
+nameOf ShallowBending = 52 ∷ 46 ∷ 50 ∷ 46 ∷ 51 ∷ []
+-- 4.3.3
+nameOf Shear = 52 ∷ 46 ∷ 51 ∷ 46 ∷ 51 ∷ []
+-- 5.5.6s
+nameOf LinkSpacing = 53 ∷ 46 ∷ 53 ∷ 46 ∷ 54 ∷ 115 ∷ []
+-- 5.5.6r
+nameOf LeastLinks = 53 ∷ 46 ∷ 53 ∷ 46 ∷ 54 ∷ 114 ∷ []
+-- 4.4.1
+nameOf ServiceStress = 52 ∷ 46 ∷ 52 ∷ 46 ∷ 49 ∷ []
+-- 4.4.2
+nameOf CrackWidth = 52 ∷ 46 ∷ 52 ∷ 46 ∷ 50 ∷ []
+-- 4.5.1
+nameOf Deflection = 52 ∷ 46 ∷ 53 ∷ 46 ∷ 49 ∷ []
+-- 5.6.1
+nameOf MostSteel = 53 ∷ 46 ∷ 54 ∷ 46 ∷ 49 ∷ []
+-- 5.6.2
+nameOf ColumnLinks = 53 ∷ 46 ∷ 54 ∷ 46 ∷ 50 ∷ []
+-- 4.2.4s
+nameOf Slenderness = 52 ∷ 46 ∷ 50 ∷ 46 ∷ 52 ∷ 115 ∷ []
+-- 4.2.4
+nameOf AxialForce = 52 ∷ 46 ∷ 50 ∷ 46 ∷ 52 ∷ []
+-- 5.2.5
+nameOf Anchorage = 53 ∷ 46 ∷ 50 ∷ 46 ∷ 53 ∷ []
+-- 5.3.7
+nameOf Lap = 53 ∷ 46 ∷ 51 ∷ 46 ∷ 55 ∷ []

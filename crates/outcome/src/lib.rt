@@ -1,0 +1,53 @@
+// What the checks of a member come to: the first failed check or OK, and up to four figures.
+
+pub enum Check {
+    // Every check holds: `OK`.
+    Passed,
+    // 6.3.1: least steel of a beam.
+    LeastSteel,
+    // 4.2.2-3: depth of the compression zone.
+    CompressionDepth,
+    // 4.2.2: bending.
+    Bending,
+    // 4.2.3: bending where the compression zone is shallower than twice a'.
+    ShallowBending,
+    // 4.3.3: shear.
+    Shear,
+    // 5.5.6s: spacing of links in a beam.
+    LinkSpacing,
+    // 5.5.6r: least links.
+    LeastLinks,
+    // 4.4.1: steel stress in service.
+    ServiceStress,
+    // 4.4.2: crack width.
+    CrackWidth,
+    // 4.5.1: deflection.
+    Deflection,
+    // 5.6.1: most steel of a column.
+    MostSteel,
+    // 5.6.2: links of a column.
+    ColumnLinks,
+    // 4.2.4s: slenderness of a column.
+    Slenderness,
+    // 4.2.4: axial force.
+    AxialForce,
+    // 5.2.5: anchorage of a mesh.
+    Anchorage,
+    // 5.3.7: lap of a mesh.
+    Lap,
+}
+
+// A figure of the line, or none where its check was not reached.
+pub enum Figure {
+    Reached(u64),
+    Unreached,
+}
+
+// Beams: moment (N·m), shear (N), width (0.001 mm), deflection (0.01 mm); columns: axial force (N); meshes: anchorage, lap (mm).
+pub struct Outcome {
+    pub check: Check,
+    pub first: Figure,
+    pub second: Figure,
+    pub third: Figure,
+    pub fourth: Figure,
+}

@@ -1,0 +1,209 @@
+-- The service figures are safe, and what their checks say of the exact inequalities; the sizes of the steps.
+use Prim.Native.Nat.{ℕ, _+_, _-_, _*_, _^_, _<_, _≤_}
+use mathlib.Core.Path.{_≡_, refl, sym, ap, _∙_}
+use mathlib.Core.Bool.{Bool, true, false}
+use native.Mathlib.Nat.{mul-pos, mul-le-mul-right, le-of-mul-le-mul-left}
+use native.Mathlib.Omega.{arith}
+use lib.Dec.{leb, ltb, eqb}
+use borrow.Author.Tests.{leb-true, leb-false}
+use Rattle.quantity.specs.Choice.{if_then_else_}
+use Rattle.quantity.specs.Fraction.{Frac, _//_, whole, Proper, _⊖_, _⊗_, _≼_, _≺_}
+use Rattle.quantity.specs.Safe.{NotBelow}
+use Rattle.quantity.proofs.Rounding.{expand, up-le}
+use Rattle.quantity.proofs.Fraction.{same-sym}
+use Rattle.quantity.proofs.Near.{Near, near-same, near-not-below}
+use Rattle.quantity.proofs.Safe.{limit-pass, limit-fail}
+use Rattle.section.specs.declared.Section.{Section}
+use Rattle.section.specs.Section.{b, h, h₀, l₀, c, flange, G, W, S, S′, E, D, Mq, ftk, Ec, fyk}
+use Rattle.section.specs.Bounded.{Bounded}
+use Rattle.service.specs.Steps.{
+  stressHolds,
+  steelStress,
+  stiffening,
+  meanStress,
+  crackSpacing,
+  widthOf,
+  σ,
+  q,
+  crackWidth,
+  widthLimit,
+  flexibility,
+  curvature,
+  shortTerm,
+  longTerm,
+  deflectionOf,
+  deflection,
+  bySpan,
+  spanDivisor,
+  deflectionHolds,
+}
+use Rattle.service.specs.Exact.{
+  exactWidth,
+  exactWidthLimit,
+  exactDeflection,
+  exactDeflectionLimit,
+  StressHolds,
+  WidthHolds,
+  DeflectionHolds,
+  WidthDoubted,
+  DeflectionDoubted,
+}
+use Rattle.service.proofs.Rounded.{
+  stress*,
+  stiffening*,
+  mean*,
+  spacing*,
+  flexibility*,
+  curvature*,
+  short*,
+  long*,
+  near-stress,
+  near-stiffening,
+  near-mean,
+  near-spacing,
+  near-width,
+  near-flexibility,
+  near-curvature,
+  near-short,
+  near-long,
+  near-deflection,
+}
+use Rattle.service.proofs.Sizes.{divisor-between}
+use Rattle.service.proofs.Clause.{width-same, deflection-same}
+
+-- ---- What the checks before give: 4.4.1 bounds the stress for any fyk up to 600, and 6.3.1 the steel ratio.
+
+pub stress-holds : (x : Section) → stressHolds x ≡ true → StressHolds x
+unfolding stressHolds
+stress-holds x e = leb-true _ _ e
+
+pub stress-fails : (x : Section) → stressHolds x ≡ false → StressHolds x → ⊥
+unfolding stressHolds
+stress-fails x e h = let t = leb-false (10 ^ 6 * Mq x) (87 * fyk x * h₀ x * S x) e in omega arith
+
+stress-core : (m k d s : ℕ) → 0 < d → 0 < s → k ≤ 600 → 10 ^ 6 * m ≤ 87 * k * d * s → 10 ^ 10 * m ≤ 6000000 * (87 * d * s)
+stress-core m k d s p q u v = simp expand (omega (arith, simp expand at v, mul-le-mul-right (d * s) u))
+
+pub σ-most : (x : Section) → Bounded x → stressHolds x ≡ true → σ x ≤ 6000000
+unfolding σ steelStress
+σ-most x a e =
+    let d : 0 < 87 * h₀ x * S x = mul-pos (mul-pos (omega arith) (a .h₀-least)) (a .S-least) in
+    up-le d (stress-core (Mq x) (fyk x) (h₀ x) (S x) (a .h₀-least) (a .S-least) (a .steel .fyk .most) (stress-holds x e))
+
+web-most : (x : Section) → G x ≤ 50 * S x → W x ≤ 100 * S x
+web-most x h = omega arith
+
+-- ---- Each step near its unrounded one.
+
+module _ (x : Section) (a : Bounded x) (e : stressHolds x ≡ true) where
+  near-σ : Near 1000 (σ x) (stress* (Mq x) (h₀ x) (S x)) 0 1000 6000000
+  unfolding σ
+  near-σ = near-stress (Mq x) (h₀ x) (S x) (a .h₀-least) (a .S-least) (σ-most x a e)
+
+  pub near-q : Near 1000 (q x) (mean* (stress* (Mq x) (h₀ x) (S x)) (stiffening* (ftk x) (W x) (S x))) 0 3100 6000000
+  unfolding q
+  near-q = near-mean near-σ (near-stiffening (ftk x) (W x) (S x) (a .S-least))
+
+  near-z : Near 1000 (flexibility (S x) (Ec x) (b x) (h₀ x)) (flexibility* (S x) (Ec x) (b x) (h₀ x)) 0 1000 2082353
+  near-z = near-flexibility (S x) (Ec x) (b x) (h₀ x) (a .S-least) (a .ratio) (a .concrete .ec-least)
+
+  near-r : Near 1000 (curvature (q x) (flexibility (S x) (Ec x) (b x) (h₀ x)) (σ x))
+      (curvature* (mean* (stress* (Mq x) (h₀ x) (S x)) (stiffening* (ftk x) (W x) (S x))) (flexibility* (S x) (Ec x) (b x) (h₀ x)) (stress* (Mq x) (h₀ x) (S x)))
+      0 13648 19394118
+  near-r = near-curvature near-q near-z near-σ
+
+  pub deflection-safe : NotBelow (deflection x) (12 // 10) (whole 100 ⊗ exactDeflection x)
+  unfolding deflection
+  deflection-safe =
+      near-not-below (12 // 10) (omega arith)
+      (near-same (same-sym (deflection-same x (a .Mq-least) (a .h₀-least) (a .S-least) (mul-pos (omega arith) (a .h₀-least)) (omega arith) (a .concrete .ec .exact)))
+      (near-deflection (near-short (l₀ x) (h₀ x) (a .h₀-least) (a .slender) (a .l₀-most) near-r) (near-long (S x) (S′ x) (x .flanged) (a .S-least))))
+
+  module _ (g : G x ≤ 50 * S x) where
+    near-K : Near 1000 (crackSpacing (c x) (E x) (W x) (D x) (S x)) (spacing* (c x) (E x) (W x) (D x) (S x)) 0 1000 212350
+    near-K = near-spacing (c x) (E x) (W x) (D x) (S x) (a .D-least) (a .S-least) (web-most x g) (a .E-most)
+
+    pub width-safe : NotBelow (crackWidth x) (11 // 10) (whole 1000 ⊗ exactWidth x)
+    unfolding crackWidth
+    width-safe =
+        near-not-below (11 // 10) (omega arith)
+        (near-same (same-sym (width-same x (a .Mq-least) (a .h₀-least) (a .S-least) (a .D-least))) (near-width near-q near-K))
+
+-- ---- Verdicts.
+
+scale-≼ : (k : ℕ) (a l : Frac) → 0 < k → whole k ⊗ a ≼ whole k ⊗ l → a ≼ l
+unfolding _⊗_
+scale-≼ k a l p h =
+    let t : k * (a .num * l .den) ≤ k * (l .num * a .den) = simp expand (omega (arith, simp expand at h)) in
+    le-of-mul-le-mul-left t p
+
+width-limit-proper : (x : Section) → Proper (whole 1000 ⊗ exactWidthLimit x)
+unfolding _⊗_ exactWidthLimit
+width-limit-proper x = go (eqb (x .environment) 1)
+  where
+    go : (t : Bool) → Proper (whole 1000 ⊗ (if t then 3 // 10 else 2 // 10))
+    go true = omega arith
+    go false = omega arith
+
+width-limit : (x : Section) (v : ℕ) →
+    (v ≤ widthLimit x → whole v ≼ whole 1000 ⊗ exactWidthLimit x) × (widthLimit x < v → whole 1000 ⊗ exactWidthLimit x ≺ whole v)
+unfolding _⊗_ exactWidthLimit widthLimit
+width-limit x v = go (eqb (x .environment) 1)
+  where
+    go : (t : Bool) →
+        (v ≤ (if t then 300 else 200) → whole v ≼ whole 1000 ⊗ (if t then 3 // 10 else 2 // 10))
+        × ((if t then 300 else 200) < v → whole 1000 ⊗ (if t then 3 // 10 else 2 // 10) ≺ whole v)
+    go true = (λ h. omega arith, λ h. omega arith)
+    go false = (λ h. omega arith, λ h. omega arith)
+
+deflection-limit : (x : Section) → exactDeflectionLimit x ≡ l₀ x // spanDivisor (l₀ x) (x .strict)
+unfolding exactDeflectionLimit spanDivisor
+deflection-limit x = go (eqb (x .strict) 1) (ltb (l₀ x) 7000) (leb (l₀ x) 9000)
+  where
+    go : (s t u : Bool) →
+        (if t then l₀ x // (if s then 250 else 200) else (if u then l₀ x // (if s then 300 else 250) else l₀ x // (if s then 400 else 300)))
+        ≡ l₀ x // (if s then (if t then 250 else (if u then 300 else 400)) else (if t then 200 else (if u then 250 else 300)))
+    go true true true = refl
+    go true true false = refl
+    go true false true = refl
+    go true false false = refl
+    go false true true = refl
+    go false true false = refl
+    go false false true = refl
+    go false false false = refl
+
+span-core : (v l n : ℕ) → (v * n ≤ 100 * l → whole v ≼ whole 100 ⊗ (l // n)) × (100 * l < v * n → whole 100 ⊗ (l // n) ≺ whole v)
+unfolding _⊗_
+span-core v l n = (λ h. omega arith, λ h. omega arith)
+
+span-proper : (l s : ℕ) → Proper (whole 100 ⊗ (l // spanDivisor l s))
+unfolding _⊗_
+span-proper l s = omega (arith, divisor-between l s .0)
+
+module _ (x : Section) (a : Bounded x) (e : stressHolds x ≡ true) where
+  -- the limit, in the figure's unit
+  abbrev span : Frac
+  span = whole 100 ⊗ (l₀ x // spanDivisor (l₀ x) (x .strict))
+
+  pub deflection-holds : deflectionHolds x ≡ true → DeflectionHolds x
+  unfolding deflectionHolds
+  deflection-holds t =
+      rw (deflection-limit x) (scale-≼ 100 (exactDeflection x) (l₀ x // spanDivisor (l₀ x) (x .strict)) (omega arith)
+      (limit-pass span (span-proper (l₀ x) (x .strict)) (deflection-safe x a e)
+      (span-core (deflection x) (l₀ x) (spanDivisor (l₀ x) (x .strict)) .0 (leb-true _ _ t))))
+
+  pub deflection-doubted : deflectionHolds x ≡ false → DeflectionDoubted x
+  unfolding deflectionHolds
+  deflection-doubted t =
+      rw (deflection-limit x) (limit-fail span (span-proper (l₀ x) (x .strict)) (deflection-safe x a e)
+      (span-core (deflection x) (l₀ x) (spanDivisor (l₀ x) (x .strict)) .1 (leb-false _ _ t)))
+
+  module _ (g : G x ≤ 50 * S x) where
+    pub width-holds : leb (crackWidth x) (widthLimit x) ≡ true → WidthHolds x
+    width-holds t =
+        scale-≼ 1000 (exactWidth x) (exactWidthLimit x) (omega arith)
+        (limit-pass (whole 1000 ⊗ exactWidthLimit x) (width-limit-proper x) (width-safe x a e g) (width-limit x (crackWidth x) .0 (leb-true _ _ t)))
+
+    pub width-doubted : leb (crackWidth x) (widthLimit x) ≡ false → WidthDoubted x
+    width-doubted t =
+        limit-fail (whole 1000 ⊗ exactWidthLimit x) (width-limit-proper x) (width-safe x a e g) (width-limit x (crackWidth x) .1 (leb-false _ _ t))

@@ -1,0 +1,52 @@
+-- `service::long_term_of` meets its contract.
+use native.Mathlib.Omega.{arith}
+use Prim.Native.Nat.{ℕ, _+_, _-_, _*_, _≤_, _<_, min, max}
+use mathlib.Core.Path.{_≡_, refl, sym, ap, _∙_}
+use Rattle.quantity.proofs.Product.{product-most}
+use mathlib.Core.Bool.{true, false}
+use Rattle.quantity.specs.Choice.{if_then_else_}
+use Rattle.service.proofs.Sizes.{long-sized}
+use borrow.Author.Needs.{needs}
+use Rattle.service.proofs.long_term_of.Statement.{statement}
+use Rattle.service.proofs.long_term_of.Tie as tie
+
+smaller-requires : tie.Need-smaller-requires
+smaller-requires c κs = search needs
+
+mul-div-down : tie.Need-mul-div-down
+mul-div-down c = search needs
+
+div-down-requires : tie.Need-div-down-requires
+div-down-requires c κs = search needs
+
+less-requires : tie.Need-less-requires
+less-requires c κs = search needs
+
+mul-div-up : tie.Need-mul-div-up
+mul-div-up c = search needs
+
+div-up-requires : tie.Need-div-up-requires
+div-up-requires c κs = search needs
+
+returns : tie.Need-returns
+returns c =
+    let k = c .before .before in
+    rw (c .before .if1 .taken) (long-sized _ _ _ _ _ (k .before .before .before .pre .0) (k .before .before .smaller .ensures) (k .before .div-down .ensures) (k .less .ensures) true _ (c .div-up .ensures))
+
+returns-2 : tie.Need-returns-2
+returns-2 c =
+    let k = c .before in
+    rw (c .if1 .left) (long-sized _ _ _ _ _ (k .before .before .before .pre .0) (k .before .before .smaller .ensures) (k .before .div-down .ensures) (k .less .ensures) false _ refl)
+
+pub long-term-of-spec : {M : Type 1} → statement M
+long-term-of-spec =
+    tie.close
+    (tie.spec
+    smaller-requires
+    mul-div-down
+    div-down-requires
+    less-requires
+    mul-div-up
+    div-up-requires
+    returns
+    returns-2)

@@ -1,0 +1,35 @@
+-- `service::mean_stress` meets its contract.
+use native.Mathlib.Omega.{arith}
+use Prim.Native.Nat.{ℕ, _+_, _-_, _*_, _≤_, _<_, min, max}
+use mathlib.Core.Path.{_≡_, refl, sym, ap, _∙_}
+use Rattle.quantity.proofs.Product.{product-most}
+use Rattle.service.specs.Steps.{q}
+use borrow.Author.Needs.{needs}
+use Rattle.service.proofs.mean_stress.Statement.{statement}
+use Rattle.service.proofs.mean_stress.Tie as tie
+
+in-hundredths-requires : tie.Need-in-hundredths-requires
+in-hundredths-requires c κs = search needs
+
+weighted-area-requires : tie.Need-weighted-area-requires
+weighted-area-requires c κs = search needs
+
+stiffening-of-requires : tie.Need-stiffening-of-requires
+stiffening-of-requires c κs = search needs
+
+mean-stress-of-requires : tie.Need-mean-stress-of-requires
+mean-stress-of-requires c κs = search needs
+
+returns : tie.Need-returns
+unfolding q
+returns c = (cc, omega arith)
+
+pub mean-stress-spec : {M : Type 1} → statement M
+mean-stress-spec =
+    tie.close
+    (tie.spec
+    in-hundredths-requires
+    weighted-area-requires
+    stiffening-of-requires
+    mean-stress-of-requires
+    returns)

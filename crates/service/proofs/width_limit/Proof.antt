@@ -1,0 +1,20 @@
+-- `service::width_limit` meets its contract.
+use native.Mathlib.Omega.{arith}
+use Prim.Native.Nat.{ℕ, _+_, _-_, _*_, _≤_, _<_, min, max}
+use mathlib.Core.Path.{_≡_, refl, sym, ap, _∙_}
+use Rattle.quantity.proofs.Product.{product-most}
+use borrow.Author.Tests.{eq-eqb, ne-eqb}
+use Rattle.service.specs.Steps.{widthLimit}
+use Rattle.service.proofs.width_limit.Statement.{statement}
+use Rattle.service.proofs.width_limit.Tie as tie
+
+returns : tie.Need-returns
+unfolding widthLimit
+returns c = rw (eq-eqb _ _ (c .if1 .taken))
+
+returns-2 : tie.Need-returns-2
+unfolding widthLimit
+returns-2 c = rw (ne-eqb _ _ (c .if1 .left))
+
+pub width-limit-spec : {M : Type 1} → statement M
+width-limit-spec = tie.close (tie.spec returns returns-2)

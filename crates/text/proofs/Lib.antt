@@ -1,0 +1,5 @@
+pub mod All
+pub mod Put
+pub mod Decimal
+pub mod Split
+mod Examples
