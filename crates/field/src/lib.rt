@@ -45,7 +45,7 @@ fn either(a: bool, b: bool) -> bool
     if a { true } else { b }
 }
 
-fn is_between(lo: u32, hi: u32, x: u32) -> bool
+pub fn is_between(lo: u32, hi: u32, x: u32) -> bool
     ensures { λ r. ⌜ r ≡ between lo hi x ⌝ }
 {
     both(lo <= x, x <= hi)
