@@ -1,7 +1,7 @@
 -- Questions 8 to 10: what a yes says.
 use Prim.Native.Nat.{ℕ, zero, suc, _+_, _-_, _*_, _≤_, _<_}
-use mathlib.Core.Path.{_≡_, refl, sym, _∙_}
-use mathlib.Core.Bool.{Bool, true, false, _&&_, false≢true}
+use mathlib.Core.Path.{_≡_, refl, sym, ap, _∙_}
+use mathlib.Core.Bool.{Bool, true, false, _&&_, _||_, false≢true, or-false}
 use mathlib.Core.List.{List, [], _∷_}
 use native.Mathlib.Omega.{arith}
 use lib.Dec.{eqb, leb, ltb}
@@ -9,7 +9,7 @@ use lib.ListN.{length, take}
 use borrow.Author.Tests.{leb-true, ltb-true, eqb-true, eq-eqb, ne-eqb}
 use Rattle.quantity.proofs.Choice.{if-case}
 use Rattle.member.specs.declared.Group.{Group}
-use Rattle.member.specs.Member.{Beam, Column, h₀}
+use Rattle.member.specs.Member.{Beam, Column, Mesh, h₀}
 use Rattle.member.specs.Sums.{barCount, area}
 use Rattle.member.specs.Questions.{
   flangeFits,
@@ -20,6 +20,7 @@ use Rattle.member.specs.Questions.{
   beamBars,
   columnBars,
   beamRatio,
+  meshRelation,
 }
 
 pub both-true : (a b : Bool) → (a && b) ≡ true → (a ≡ true) × (b ≡ true)
@@ -103,3 +104,9 @@ module _ (x : Column) where
   pub column-few-bars : columnBars x ≡ true → barCount (x .groups) ≤ 40
   unfolding columnBars
   column-few-bars e = leb-true _ _ e
+
+-- 8 of a mesh
+pub apart-alone : (x : Mesh) → meshRelation x ≡ true → 1 ≤ x .cross → x .apart ≡ 0
+unfolding meshRelation
+apart-alone x e h =
+    eqb-true (x .apart) 0 (sym (or-false (eqb (x .apart) 0)) ∙ ap (λ (b : Bool). eqb (x .apart) 0 || b) (sym (ne-eqb (x .cross) 0 (λ z. omega arith))) ∙ e)

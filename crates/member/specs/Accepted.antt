@@ -9,7 +9,7 @@ use Rattle.standard.specs.Table.{listed}
 use Rattle.standard.specs.Concrete.{concretes}
 use Rattle.standard.specs.Steel.{steels, linkSteels}
 use Rattle.member.specs.declared.Group.{Group}
-use Rattle.member.specs.Member.{Beam, Column, Mesh, h₀}
+use Rattle.member.specs.Member.{Beam, Column, Mesh, Member, beam, column, mesh, h₀}
 use Rattle.member.specs.Sums.{barCount, area}
 
 -- a diameter of the table from lo to hi
@@ -65,6 +65,8 @@ pub record AcceptedBeam (x : Beam) : Type 0 where
   pub Mq-least : 1 ≤ x .Mq
   pub Mq-most : x .Mq ≤ 100000000
   pub Vd-most : x .Vd ≤ 100000000
+  pub environment-least : 1 ≤ x .environment
+  pub environment-most : x .environment ≤ 3
   pub strict-most : x .strict ≤ 1
   -- 8
   pub flange : x .b ≤ x .bf
@@ -72,6 +74,7 @@ pub record AcceptedBeam (x : Beam) : Type 0 where
   pub slab : 2 * x .hf ≤ x .h
   pub no-compression : length (x .compression) ≡ 0 → x .a′ ≡ 0
   pub faces : 2 * (x .aₛ + x .a′) ≤ x .h
+  pub cover : x .c < x .aₛ
   pub slender : x .l₀ ≤ 30 * h₀ x
   -- 9
   pub tension-bars : barCount (x .tension) ≤ 40
@@ -110,3 +113,14 @@ pub record AcceptedMesh (x : Mesh) : Type 0 where
   pub compression : x .compression ≤ 1
   pub anchorage : x .anchorage ≤ 100000
   pub lap : x .lap ≤ 100000
+  -- 8
+  pub apart-alone : 1 ≤ x .cross → x .apart ≡ 0
+
+-- A member of any kind: question 5's range of the mark, and the fields of its kind.
+abbrev pub AcceptedMark : ℕ → Type 0
+AcceptedMark m = (1 ≤ m) × (m ≤ 999999)
+
+abbrev pub AcceptedMember : Member → Type 0
+AcceptedMember (beam m x) = AcceptedMark m × AcceptedBeam x
+AcceptedMember (column m x) = AcceptedMark m × AcceptedColumn x
+AcceptedMember (mesh m x) = AcceptedMark m × AcceptedMesh x

@@ -1,0 +1,2 @@
+mod Made
+pub mod Accepted

@@ -1,0 +1,50 @@
+-- `built::column_verdict` meets its contract.
+use Rattle.member.specs.Questions.{columnRelation, columnBars}
+use Rattle.built.specs.Verdict.{columnVerdict}
+use Rattle.built.proofs.Accepted.{column-groups-of, said}
+use borrow.Author.Needs.{needs}
+use Rattle.built.proofs.column_verdict.Statement.{statement}
+use Rattle.built.proofs.column_verdict.Tie as tie
+
+column-of-requires : tie.Need-column-of-requires
+column-of-requires c κs = search needs
+
+column-relation-requires : tie.Need-column-relation-requires
+column-relation-requires c κs = search needs
+
+column-bars-requires : tie.Need-column-bars-requires
+column-bars-requires c κs = let s = c .before .before in column-groups-of _ (s .before .pre) (s .column-of .ensures)
+
+returns : tie.Need-returns
+unfolding columnVerdict
+returns c =
+    let k = c .before in
+    let j = k .before .before in
+    let e = j .before .column-of .ensures in
+    rw (said columnRelation e (j .column-relation .ensures) (k .before .if1 .taken), said columnBars e (k .column-bars .ensures) (c .if2 .taken))
+
+returns-2 : tie.Need-returns-2
+unfolding columnVerdict
+returns-2 c =
+    let k = c .before in
+    let j = k .before .before in
+    let e = j .before .column-of .ensures in
+    rw (said columnRelation e (j .column-relation .ensures) (k .before .if1 .taken), said columnBars e (k .column-bars .ensures) (c .if2 .left))
+
+returns-3 : tie.Need-returns-3
+unfolding columnVerdict
+returns-3 c =
+    let j = c .before in
+    let e = j .before .column-of .ensures in
+    rw (said columnRelation e (j .column-relation .ensures) (c .if1 .left))
+
+pub column-verdict-spec : {M : Type 1} → statement M
+column-verdict-spec =
+    tie.close
+    (tie.spec
+    column-of-requires
+    column-relation-requires
+    column-bars-requires
+    returns
+    returns-2
+    returns-3)

@@ -1,0 +1,47 @@
+-- Questions 8 to 10 of a whole member, and the questions of a single built member (document 01, "Questions before any check").
+use Prim.Native.Nat.{ℕ}
+use mathlib.Core.Bool.{Bool}
+use mathlib.Core.List.{List}
+use lib.Dec.{eqb}
+use Rattle.quantity.specs.Choice.{if_then_else_}
+use Rattle.question.specs.declared.Question.{Question}
+use Rattle.question.specs.declared.Question.the-variants.{Mark, Kind, Field, Relation, Bars, Ratio}
+use Rattle.member.specs.Member.{Beam, Column, Mesh}
+use Rattle.member.specs.Questions.{beamRelation, beamBars, beamRatio, columnRelation, columnBars, meshRelation}
+use Rattle.field.specs.Domain.{between}
+use Rattle.field.specs.Fields.{fieldsOf, fieldsHold, known}
+use Rattle.built.specs.declared.Verdict.{Verdict}
+use Rattle.built.specs.declared.Verdict.the-variants.{Accepted, Refused}
+use Rattle.built.specs.Slots.{beamAt, columnAt, meshAt}
+
+-- question q is put: a no is the answer
+abbrev pub ask : Question → Bool → Verdict → Verdict
+ask q holds next = if holds then next else Refused q
+
+-- 8 to 10
+unfoldable pub beamVerdict : Beam → Verdict
+beamVerdict x = ask Relation (beamRelation x) (ask Bars (beamBars x) (ask Ratio (beamRatio x) Accepted))
+
+unfoldable pub columnVerdict : Column → Verdict
+columnVerdict x = ask Relation (columnRelation x) (ask Bars (columnBars x) Accepted)
+
+unfoldable pub meshVerdict : Mesh → Verdict
+meshVerdict x = ask Relation (meshRelation x) Accepted
+
+unfoldable pub memberVerdict : ℕ → List ℕ → Verdict
+memberVerdict kind v =
+    if eqb kind 1 then beamVerdict (beamAt v)
+    else if eqb kind 2 then columnVerdict (columnAt v)
+    else meshVerdict (meshAt v)
+
+-- 5, range only
+unfoldable pub markInRange : ℕ → Bool
+markInRange mark = between 1 999999 mark
+
+-- 5 (range only) and 6 to 10
+unfoldable pub builtVerdict : ℕ → ℕ → List ℕ → Verdict
+builtVerdict mark kind v =
+    ask Mark (markInRange mark)
+    (ask Kind (known kind)
+    (ask Field (fieldsHold (fieldsOf kind) 0 v)
+    (memberVerdict kind v)))

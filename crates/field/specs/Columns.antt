@@ -1,0 +1,37 @@
+-- The columns in which the code holds the table of fields: the sort of a domain and its two numbers.
+use Prim.Native.Nat.{ℕ}
+use mathlib.Core.List.{List, [], _∷_, _++_}
+use lib.Dec.{eqb}
+use lib.ListN.{getD}
+use Rattle.quantity.specs.Choice.{if_then_else_}
+use Rattle.field.specs.declared.Domain.{Domain}
+use Rattle.field.specs.declared.Domain.the-variants.{
+  Range,
+  ZeroOr,
+  Bar,
+  Grade,
+  Steel,
+  LinkSteel,
+  GroupDiameter,
+  GroupBars,
+}
+use Rattle.field.specs.Fields.{kinds}
+
+abbrev pub decode : ℕ → ℕ → ℕ → Domain
+decode sort a b =
+    if eqb sort 0 then Range a b
+    else if eqb sort 1 then ZeroOr a b
+    else if eqb sort 2 then Bar a b
+    else if eqb sort 3 then Grade
+    else if eqb sort 4 then Steel
+    else if eqb sort 5 then LinkSteel
+    else if eqb sort 6 then GroupDiameter a b
+    else GroupBars a b
+
+-- the tables of all kinds, one after the other
+abbrev pub rows : List (List Domain) → List Domain
+rows [] = []
+rows (t ∷ ts) = t ++ rows ts
+
+unfoldable pub rowAt : ℕ → Domain
+rowAt row = getD (rows kinds) row (Range 0 0)

@@ -1,0 +1,90 @@
+-- The fields of each kind in the order of document 01, "Schedule bytes": field i of a member stands in slot i.
+use Prim.Native.Nat.{ℕ, _+_}
+use mathlib.Core.Bool.{Bool, true, _&&_}
+use mathlib.Core.List.{List, [], _∷_, _++_}
+use lib.ListN.{getD}
+use Rattle.field.specs.declared.Domain.{Domain}
+use Rattle.field.specs.declared.Domain.the-variants.{
+  Range,
+  ZeroOr,
+  Bar,
+  Grade,
+  Steel,
+  LinkSteel,
+  GroupDiameter,
+  GroupBars,
+}
+use Rattle.field.specs.Domain.{between, fieldHolds}
+
+-- the groups of a list whose count stands in slot k: diameter and number of bars of each
+abbrev pub groups : ℕ → List Domain
+groups k =
+    GroupDiameter k 0 ∷ GroupBars k 0 ∷ GroupDiameter k 1 ∷ GroupBars k 1 ∷ GroupDiameter k 2 ∷ GroupBars k 2 ∷ GroupDiameter k 3 ∷ GroupBars k 3 ∷ []
+
+-- Kind 1, beam.
+abbrev pub beamFields : List Domain
+beamFields =
+    -- b, h, bf, hf
+    Range 100 1000 ∷ Range 160 2000 ∷ Range 100 3000 ∷ Range 0 1000
+    -- as, a'
+    ∷ Range 20 200 ∷ ZeroOr 20 200
+    -- concrete, steel
+    ∷ Grade ∷ Steel
+    -- tension group count (slot 8) and groups
+    ∷ Range 1 4 ∷ (groups 8
+    -- compression group count (slot 17) and groups
+    ++ (Range 0 4 ∷ (groups 17
+    -- links: diameter, legs, spacing, steel
+    ++ (Bar 6 12 ∷ Range 2 8 ∷ Range 50 400 ∷ LinkSteel
+    -- cover, span
+    ∷ Range 15 200 ∷ Range 1000 12000
+    -- M, Mq, V
+    ∷ Range 0 100000000 ∷ Range 1 100000000 ∷ Range 0 100000000
+    -- environment, strict
+    ∷ Range 1 3 ∷ Range 0 1 ∷ []))))
+
+-- Kind 2, column.
+abbrev pub columnFields : List Domain
+columnFields =
+    -- b, h
+    Range 300 1500 ∷ Range 300 1500
+    -- concrete, steel
+    ∷ Grade ∷ Steel
+    -- group count (slot 4) and groups
+    ∷ Range 1 4 ∷ (groups 4
+    -- links: diameter, spacing
+    ++ (Bar 6 12 ∷ Range 50 600
+    -- l0, N
+    ∷ Range 500 30000 ∷ Range 0 1000000000 ∷ []))
+
+-- Kind 3, mesh.
+abbrev pub meshFields : List Domain
+meshFields =
+    -- family, concrete, d
+    Range 1 2 ∷ Grade ∷ Bar 5 16
+    -- cross bar, paired, apart, seismic
+    ∷ Range 0 1 ∷ Range 0 1 ∷ Range 0 1 ∷ Range 0 4
+    -- lap, compression
+    ∷ Range 1 2 ∷ Range 0 1
+    -- anchorage given, lap given
+    ∷ Range 0 100000 ∷ Range 0 100000 ∷ []
+
+-- By kind; there is no kind 0.
+abbrev pub kinds : List (List Domain)
+kinds = [] ∷ beamFields ∷ columnFields ∷ meshFields ∷ []
+
+unfoldable pub fieldsOf : ℕ → List Domain
+fieldsOf kind = getD kinds kind []
+
+-- Question 6.
+unfoldable pub known : ℕ → Bool
+known kind = between 1 3 kind
+
+-- Field i of a kind.
+unfoldable pub domainAt : ℕ → ℕ → Domain
+domainAt kind i = getD (fieldsOf kind) i (Range 0 0)
+
+-- Question 7 of the fields in the slots from i on.
+abbrev pub fieldsHold : List Domain → ℕ → List ℕ → Bool
+fieldsHold [] i v = true
+fieldsHold (d ∷ ds) i v = fieldHolds d i v && fieldsHold ds (i + 1) v
