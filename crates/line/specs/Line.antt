@@ -1,6 +1,7 @@
 -- The words of each line that is printed (document 01, "One schedule, printed"); `textOf` makes the text of lines of words.
 use Prim.Native.Nat.{ℕ}
-use mathlib.Core.List.{List, [], _∷_}
+use mathlib.Core.List.{List, [], _∷_, map}
+use lib.ListN.{length}
 use Rattle.text.specs.Text.{decimal, textOf}
 use Rattle.outcome.specs.declared.Figure.{Figure}
 use Rattle.outcome.specs.declared.Figure.the-variants.{Reached, Unreached}
@@ -26,6 +27,11 @@ lineWords mark o =
 -- the first line of a report: members n
 abbrev pub headWords : ℕ → List (List ℕ)
 headWords n = (109 ∷ 101 ∷ 109 ∷ 98 ∷ 101 ∷ 114 ∷ 115 ∷ []) ∷ decimal n ∷ []
+
+-- a report: the first line, then a line for each member
+abbrev pub reportWords : {A : Type 0} → (A → ℕ) → (A → Outcome) → List A → List (List (List ℕ))
+reportWords markOf outcomeOf members =
+    headWords (length members) ∷ map (λ m. lineWords (markOf m) (outcomeOf m)) members
 
 -- a refusal: refused question member m
 abbrev pub refusalWords : ℕ → ℕ → List (List ℕ)

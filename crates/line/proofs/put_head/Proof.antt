@@ -1,31 +1,26 @@
+-- `line::put_head` meets its contract.
+use Rattle.line.proofs.Text.{put-more, put-end}
 use borrow.Author.Needs.{needs}
 use Rattle.line.proofs.put_head.Statement.{statement}
 use Rattle.line.proofs.put_head.Tie as tie
-use Rattle.line.proofs.put_head.Reads as reads
-use Rattle.line.proofs.put_head.Lts as lts
-use Rattle.line.proofs.put_name.Reads as put-name-reads
-use Rattle.line.proofs.put_number.Reads as put-number-reads
-use Rattle.line.proofs.word.Reads as word-reads
 
--- src/lib.rt:99:31
 word-requires : tie.Need-word-requires
 word-requires c κs = search needs
 
--- src/lib.rt:99:9
 put-name-requires : tie.Need-put-name-requires
 put-name-requires c κs = search needs
 
--- src/lib.rt:100:5
 put-number-requires : tie.Need-put-number-requires
 put-number-requires c κs = search needs
 
--- src/lib.rt:96:1
 same-length : tie.Need-same-length
 same-length c = search needs
 
--- src/lib.rt:96:1
 returns : tie.Need-returns
-returns c = ?
+returns c =
+    let n = c .before .before in
+    let m = n .before .before .before .before in
+    put-more _ _ _ (rw (m .before .word .ensures) at (m .put-name .ensures)) (put-end _ (n .put-number .ensures))
 
 pub put-head-spec : {M : Type 1} → statement M
 put-head-spec =
