@@ -1,0 +1,4 @@
+pub mod Fields
+pub mod Held
+pub mod Members
+pub mod Answers
