@@ -2,3 +2,4 @@ pub mod Fields
 pub mod Held
 pub mod Members
 pub mod Answers
+pub mod Accepted
