@@ -124,3 +124,7 @@ abbrev pub AcceptedMember : Member → Type 0
 AcceptedMember (beam m x) = AcceptedMark m × AcceptedBeam x
 AcceptedMember (column m x) = AcceptedMark m × AcceptedColumn x
 AcceptedMember (mesh m x) = AcceptedMark m × AcceptedMesh x
+
+abbrev pub AcceptedMembers : List Member → Type 0
+AcceptedMembers [] = Unit {0}
+AcceptedMembers (m ∷ ms) = AcceptedMember m × AcceptedMembers ms

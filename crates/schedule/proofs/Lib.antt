@@ -1,0 +1,5 @@
+pub mod Fields
+pub mod Held
+pub mod Members
+pub mod Answers
+pub mod Accepted

@@ -1,0 +1,160 @@
+-- The steps of reading members, as the code takes them.
+use Prim.Native.Nat.{ℕ, zero, suc, _+_, _-_, _≤_, _<_}
+use mathlib.Core.Path.{_≡_, refl, sym, ap, _∙_}
+use mathlib.Core.Bool.{Bool, true, false}
+use mathlib.Core.List.{List, [], _∷_}
+use native.Mathlib.Omega.{arith}
+use lib.ListN.{length}
+use Rattle.question.specs.declared.Question.{Question}
+use Rattle.question.specs.declared.Question.the-variants.{Kind}
+use Rattle.question.specs.declared.Refusal.{Refusal}
+use Rattle.number.specs.declared.Number.{Number}
+use Rattle.number.specs.declared.Number.the-variants.{Value, Refused}
+use Rattle.number.specs.Number.{numberAt}
+use Rattle.member.specs.Member.{Member}
+use Rattle.field.specs.Fields.{fieldsOf, known}
+use Rattle.built.specs.declared.Built.{Built}
+use Rattle.built.specs.declared.Verdict.the-variants as verdicts
+use Rattle.built.specs.Slots.{memberOf}
+use Rattle.built.specs.Verdict.{memberVerdict}
+use Rattle.schedule.specs.declared.Run.{Run}
+use Rattle.schedule.specs.declared.MemberRead.{MemberRead}
+use Rattle.schedule.specs.declared.Answer.the-variants as answers
+use Rattle.schedule.specs.Reading.{Reading, got, no, Placed, placed, andThen, ofNumber, passed, refusal, named}
+use Rattle.schedule.specs.Schedule.{empty, checked, fields, whole, markAt, kindAt, member, members}
+use Rattle.schedule.proofs.Held.{on-checked}
+use Rattle.schedule.specs.Result.{runOf, readOf, placeAfter}
+
+-- ---- A number and its question.
+
+module _ (q : Question) (test : ℕ → Bool) (s : List ℕ) (p : ℕ) where
+  pub number-refused : (r : Question) → numberAt s p ≡ Refused r → checked q test s p ≡ no r
+  number-refused r e = rw e
+
+  pub number-passes : (x next : ℕ) → numberAt s p ≡ Value x next → test x ≡ true → checked q test s p ≡ got (placed x next)
+  number-passes x next e t = rw (e, t)
+
+  pub number-fails : (x next : ℕ) → numberAt s p ≡ Value x next → test x ≡ false → checked q test s p ≡ no q
+  number-fails x next e t = rw (e, t)
+
+-- ---- A member.
+
+pub run-got : (r : Run) → r .verdict ≡ verdicts.Accepted → runOf r ≡ got (placed (r .slots .v) (r .next))
+run-got r e = rw e
+
+pub run-no : (r : Run) (q : Question) → r .verdict ≡ verdicts.Refused q → runOf r ≡ no q
+run-no r q e = rw e
+
+pub read-got : (r : MemberRead) → r .verdict ≡ verdicts.Accepted → readOf r ≡ got (placed (r .member) (r .next))
+read-got r e = rw e
+
+pub read-no : (r : MemberRead) (q : Question) → r .verdict ≡ verdicts.Refused q → readOf r ≡ no q
+read-no r q e = rw e
+
+module _ (mark kind : ℕ) (s : List ℕ) (p : ℕ) where
+  pub whole-no : (q : Question) → fields (fieldsOf kind) s p 0 empty ≡ no q → whole mark kind s p ≡ no q
+  unfolding whole
+  whole-no q e = rw e
+
+  pub whole-passed : (v : List ℕ) (next : ℕ) → fields (fieldsOf kind) s p 0 empty ≡ got (placed v next)
+      → whole mark kind s p ≡ passed (memberVerdict kind v) (got (placed (record { mark = mark; kind = kind; fields = record { v = v } }) next))
+  unfolding whole
+  whole-passed v next e = rw e
+
+module _ (s : List ℕ) (p before : ℕ) where
+  pub mark-refused : (n : Number) (q : Question) → ofNumber n ≡ markAt s p before → n ≡ Refused q → member s p before ≡ no q
+  unfolding member
+  mark-refused n q e f = rw (sym e ∙ ap ofNumber f)
+
+  module _ (n : Number) (mark at : ℕ) (e : ofNumber n ≡ markAt s p before) (f : n ≡ Value mark at) where
+    pub kind-refused : (k : Number) (q : Question) → ofNumber k ≡ kindAt s at → k ≡ Refused q → member s p before ≡ no q
+    unfolding member
+    kind-refused k q g h = rw (sym e ∙ ap ofNumber f, sym g ∙ ap ofNumber h)
+
+    pub member-whole : (k : Number) (kind next : ℕ) → ofNumber k ≡ kindAt s at → k ≡ Value kind next → member s p before ≡ whole mark kind s next
+    unfolding member
+    member-whole k kind next g h = rw (sym e ∙ ap ofNumber f, sym g ∙ ap ofNumber h)
+
+-- a number that was taken passed its question
+pub passes : (q : Question) (test : ℕ → Bool) (s : List ℕ) (p x next : ℕ) → checked q test s p ≡ got (placed x next) → test x ≡ true
+passes q test s p x next =
+    on-checked (λ o. o ≡ got (placed x next) → test x ≡ true) q test s p
+    (λ y after _ t e.
+    let same : placed y after ≡ placed x next = cc in
+    rw (← ap (λ (r : Placed ℕ). r .value) same) t)
+    (λ r e. absurd (let z : _≡_ {A = ℕ} 0 1 = cc in omega arith))
+
+pub kind-known : (k : Number) (s : List ℕ) (p kind next : ℕ) → ofNumber k ≡ kindAt s p → k ≡ Value kind next → known kind ≡ true
+unfolding kindAt
+kind-known k s p kind next g h = passes Kind known s p kind next (sym g ∙ ap ofNumber h)
+
+-- ---- Members in a row.
+
+pub no-member : (n : ℕ) (s : List ℕ) (p before i : ℕ) → n ≤ 0 → members n s p before i ≡ got (placed [] p)
+unfolding members
+no-member n s p before i h = let e : n ≡ 0 = omega arith in rw e
+
+module _ (n : ℕ) (s : List ℕ) (p before i : ℕ) (h : 0 < n) where
+  one-more : n ≡ suc (n - 1)
+  one-more = omega arith
+
+  pub member-refused : (q : Question) → member s p before ≡ no q → members n s p before i ≡ no (refusal q i)
+  unfolding members
+  member-refused q e = rw (one-more, e)
+
+  pub member-read : (b : Built) (next : ℕ) → member s p before ≡ got (placed b next)
+      → placeAfter (members n s p before i) ≡ placeAfter (members (n - 1) s next (b .mark) (i + 1))
+  unfolding members
+  member-read b next e = ap (λ (k : ℕ). placeAfter (members k s p before i)) one-more ∙ rw e (kept (memberOf b) (members (n - 1) s next (b .mark) (i + 1)))
+    where
+      kept : (m : Member) (o : Reading Refusal (Placed (List Member)))
+          → placeAfter (andThen o (λ ms. got (placed (m ∷ ms .value) (ms .next)))) ≡ placeAfter o
+      kept m (got ms) = refl
+      kept m (no r) = refl
+
+-- What a row of n members that was read says of its first member and of the others.
+pub record FirstRead (n : ℕ) (s : List ℕ) (p before i : ℕ) (ms : List Member) (end : ℕ) : Type 0 where
+  pub first : Built
+  pub next : ℕ
+  pub others : List Member
+  pub reads : member s p before ≡ got (placed first next)
+  pub list : ms ≡ memberOf first ∷ others
+  pub reads-others : members n s next (first .mark) (i + 1) ≡ got (placed others end)
+
+pub first-read : (n : ℕ) (s : List ℕ) (p before i : ℕ) (ms : List Member) (end : ℕ) → members (suc n) s p before i ≡ got (placed ms end)
+    → FirstRead n s p before i ms end
+unfolding members
+first-read n s p before i ms end = on-member (member s p before) refl
+  where
+    Goal : Reading Refusal (Placed (List Member)) → Type 0
+    Goal o = o ≡ got (placed ms end) → FirstRead n s p before i ms end
+
+    on-rest : (b : Built) (next : ℕ) → member s p before ≡ got (placed b next) → (o : Reading Refusal (Placed (List Member))) → members n s next (b .mark) (i + 1) ≡ o
+        → Goal (andThen o (λ r. got (placed (memberOf b ∷ r .value) (r .next))))
+    on-rest b next e (got r) f g =
+        let same : placed (memberOf b ∷ r .value) (r .next) ≡ placed ms end = cc in
+        let list : memberOf b ∷ r .value ≡ ms = ap (λ (x : Placed (List Member)). x .value) same in
+        let ends : r .next ≡ end = ap (λ (x : Placed (List Member)). x .next) same in
+        record {
+          first = b;
+          next = next;
+          others = r .value;
+          reads = e;
+          list = sym list;
+          reads-others = f ∙ ap (λ (k : ℕ). got (placed (r .value) k)) ends;
+        }
+    on-rest b next e (no r) f g = absurd (let z : _≡_ {A = ℕ} 0 1 = cc in omega arith)
+
+    on-member : (o : Reading Question (Placed Built)) → member s p before ≡ o
+        → Goal (andThen (named i o) (λ m. andThen (members n s (m .next) (m .value .mark) (i + 1)) (λ r. got (placed (memberOf (m .value) ∷ r .value) (r .next)))))
+    on-member (got m) e g = on-rest (m .value) (m .next) e (members n s (m .next) (m .value .mark) (i + 1)) refl g
+    on-member (no q) e g = absurd (let z : _≡_ {A = ℕ} 0 1 = cc in omega arith)
+
+-- as many members as the count says
+pub members-length : (n : ℕ) (s : List ℕ) (p before i : ℕ) (ms : List Member) (end : ℕ) → members n s p before i ≡ got (placed ms end) → length ms ≡ n
+unfolding members
+members-length zero s p before i ms end e =
+    let same : placed [] p ≡ placed ms end = cc in ap length (sym (ap (λ (x : Placed (List Member)). x .value) same))
+members-length (suc n) s p before i ms end e =
+    let f = first-read n s p before i ms end e in
+    ap length (f .list) ∙ ap suc (members-length n s (f .next) (f .first .mark) (i + 1) (f .others) end (f .reads-others))

@@ -1,0 +1,50 @@
+-- `schedule::read_kind` meets its contract.
+use mathlib.Core.Path.{sym, _∙_}
+use Rattle.field.specs.Fields.{known}
+use Rattle.question.specs.declared.Question.the-variants.{Kind}
+use Rattle.schedule.specs.Schedule.{kindAt}
+use Rattle.schedule.proofs.Members.{number-refused, number-passes, number-fails}
+use borrow.Author.Needs.{needs}
+use Rattle.schedule.proofs.read_kind.Statement.{statement}
+use Rattle.schedule.proofs.read_kind.Tie as tie
+
+number-at-requires : tie.Need-number-at-requires
+number-at-requires c κs = search needs
+
+enum-known-q : tie.Need-enum-known-q
+enum-known-q c = search needs
+
+enum-known-x : tie.Need-enum-known-x
+enum-known-x c = search needs
+
+is-known-requires : tie.Need-is-known-requires
+is-known-requires c κs = search needs
+
+returns : tie.Need-returns
+unfolding kindAt
+returns c =
+    sym (number-refused Kind known _ _ _ (sym (c .before .before .before .number-at .ensures) ∙ c .before .q .given .1))
+
+returns-2 : tie.Need-returns-2
+unfolding kindAt
+returns-2 c =
+    let x = c .before .before .before in
+    sym (number-passes Kind known _ _ _ _ (sym (x .before .before .number-at .ensures) ∙ x .x .given .1) (sym (c .before .is-known .ensures) ∙ c .if1 .taken))
+
+returns-3 : tie.Need-returns-3
+unfolding kindAt
+returns-3 c =
+    let x = c .before .before .before in
+    sym (number-fails Kind known _ _ _ _ (sym (x .before .before .number-at .ensures) ∙ x .x .given .1) (sym (c .before .is-known .ensures) ∙ c .if1 .left))
+
+pub read-kind-spec : {M : Type 1} → statement M
+read-kind-spec =
+    tie.close
+    (tie.spec
+    number-at-requires
+    enum-known-q
+    enum-known-x
+    is-known-requires
+    returns
+    returns-2
+    returns-3)

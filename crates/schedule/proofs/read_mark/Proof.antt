@@ -1,0 +1,49 @@
+-- `schedule::read_mark` meets its contract.
+use mathlib.Core.Path.{sym, _∙_}
+use Rattle.schedule.specs.Schedule.{markRises, markAt}
+use Rattle.question.specs.declared.Question.the-variants.{Mark}
+use Rattle.schedule.proofs.Members.{number-refused, number-passes, number-fails}
+use borrow.Author.Needs.{needs}
+use Rattle.schedule.proofs.read_mark.Statement.{statement}
+use Rattle.schedule.proofs.read_mark.Tie as tie
+
+number-at-requires : tie.Need-number-at-requires
+number-at-requires c κs = search needs
+
+enum-known-q : tie.Need-enum-known-q
+enum-known-q c = search needs
+
+enum-known-x : tie.Need-enum-known-x
+enum-known-x c = search needs
+
+mark-rises-requires : tie.Need-mark-rises-requires
+mark-rises-requires c κs = search needs
+
+returns : tie.Need-returns
+unfolding markAt
+returns c =
+    sym (number-refused Mark (markRises (c .before .before .before .before .before .args .before)) _ _ _ (sym (c .before .before .before .number-at .ensures) ∙ c .before .q .given .1))
+
+returns-2 : tie.Need-returns-2
+unfolding markAt
+returns-2 c =
+    let x = c .before .before .before in
+    sym (number-passes Mark (markRises (c .before .before .before .before .before .before .before .args .before)) _ _ _ _ (sym (x .before .before .number-at .ensures) ∙ x .x .given .1) (sym (c .before .mark-rises .ensures) ∙ c .if1 .taken))
+
+returns-3 : tie.Need-returns-3
+unfolding markAt
+returns-3 c =
+    let x = c .before .before .before in
+    sym (number-fails Mark (markRises (c .before .before .before .before .before .before .before .args .before)) _ _ _ _ (sym (x .before .before .number-at .ensures) ∙ x .x .given .1) (sym (c .before .mark-rises .ensures) ∙ c .if1 .left))
+
+pub read-mark-spec : {M : Type 1} → statement M
+read-mark-spec =
+    tie.close
+    (tie.spec
+    number-at-requires
+    enum-known-q
+    enum-known-x
+    mark-rises-requires
+    returns
+    returns-2
+    returns-3)

@@ -1,0 +1,71 @@
+-- `schedule::read_members` meets its contract.
+use Prim.Native.Nat.{_+_, _-_, _≤_}
+use mathlib.Core.Path.{_≡_, refl, sym, ap, _∙_}
+use borrow.Author.Needs.{needs}
+use Rattle.schedule.specs.Schedule.{members}
+use Rattle.schedule.specs.Result.{placeAfter}
+use Rattle.schedule.proofs.Members.{no-member, member-refused, member-read, read-got, read-no}
+use Rattle.schedule.proofs.read_members.Statement.{statement}
+use Rattle.schedule.proofs.read_members.Tie as tie
+
+abbrev Inv-loop : tie.InvT-loop
+Inv-loop src at count p₀ before₀ i₀ left₀ p before i left = (i + left ≤ 501) × (placeAfter (members count src at 0 1) ≡ placeAfter (members left src p before i))
+
+abbrev μ-loop : tie.MeasureT-loop
+μ-loop src at count p₀ before₀ i₀ left₀ p before i left = left
+
+loop-holds : tie.Need-loop-holds Inv-loop μ-loop
+loop-holds c = (search needs, refl)
+
+read-member-requires : tie.Need-read-member-requires Inv-loop μ-loop
+read-member-requires c κs = search needs
+
+enum-known-verdict : tie.Need-enum-known-verdict Inv-loop μ-loop
+enum-known-verdict c = search needs
+
+returns : tie.Need-returns Inv-loop μ-loop
+returns c =
+    let v = c .before in
+    let r = v .before .before .before in
+    let l = r .before .before in
+    sym (l .loop .inv .1 ∙ ap placeAfter (member-refused _ _ _ _ _ (r .before .loop-test .taken) _ (sym (r .read-member .ensures) ∙ read-no _ _ (v .verdict .given .1))))
+
+enum-told : tie.Need-enum-told Inv-loop μ-loop
+enum-told c = search needs
+
+add-i : tie.Need-add-i Inv-loop μ-loop
+add-i c = search needs
+
+sub-left : tie.Need-sub-left Inv-loop μ-loop
+sub-left c = search needs
+
+loop-less : tie.Need-loop-less Inv-loop μ-loop
+loop-less c = search needs
+
+loop-again : tie.Need-loop-again Inv-loop μ-loop
+loop-again c =
+    let r = c .before .before .before in
+    let l = r .before .before in
+    (search needs, l .loop .inv .1 ∙ member-read _ _ _ _ _ (r .before .loop-test .taken) _ _ (sym (r .read-member .ensures) ∙ read-got _ (c .enum-told .given .1)))
+
+returns-2 : tie.Need-returns-2 Inv-loop μ-loop
+returns-2 c =
+    let l = c .before in
+    sym (l .loop .inv .1 ∙ ap placeAfter (no-member _ _ _ _ _ (c .loop-test .left)))
+
+pub read-members-spec : {M : Type 1} → statement M
+read-members-spec =
+    tie.close
+    (tie.spec
+    Inv-loop
+    μ-loop
+    loop-holds
+    read-member-requires
+    enum-known-verdict
+    returns
+    enum-told
+    add-i
+    sub-left
+    loop-less
+    loop-again
+    returns-2)

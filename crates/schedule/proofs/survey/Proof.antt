@@ -1,0 +1,98 @@
+-- `schedule::survey` meets its contract.
+use mathlib.Core.Path.{sym, ap, _∙_}
+use Rattle.schedule.specs.Result.{endsOf}
+use Rattle.schedule.proofs.Answers.{too-long, no-count, too-many, member-no, bytes-left, all-read}
+use borrow.Author.Needs.{needs}
+use Rattle.schedule.proofs.survey.Statement.{statement}
+use Rattle.schedule.proofs.survey.Tie as tie
+
+refused-requires : tie.Need-refused-requires
+refused-requires c κs = search needs
+
+returns : tie.Need-returns
+returns c = c .refused .ensures ∙ sym (too-long _ (c .before .if1 .taken))
+
+number-at-requires : tie.Need-number-at-requires
+number-at-requires c κs = search needs
+
+enum-known-q : tie.Need-enum-known-q
+enum-known-q c = search needs
+
+refused-requires-2 : tie.Need-refused-requires-2
+refused-requires-2 c κs = search needs
+
+enum-known-count : tie.Need-enum-known-count
+enum-known-count c = search needs
+
+refused-requires-3 : tie.Need-refused-requires-3
+refused-requires-3 c κs = search needs
+
+returns-2 : tie.Need-returns-2
+returns-2 c =
+    let x = c .before .before .before in
+    let n = x .before .before in
+    c .refused3 .ensures ∙ sym (too-many _ (n .before .if1 .left) _ _ (sym (n .number-at .ensures) ∙ x .count .given .1) (c .before .if2 .taken))
+
+read-members-requires : tie.Need-read-members-requires
+read-members-requires c κs = search needs
+
+enum-known-r : tie.Need-enum-known-r
+enum-known-r c = search needs
+
+enum-known-end : tie.Need-enum-known-end
+enum-known-end c = search needs
+
+refused-requires-4 : tie.Need-refused-requires-4
+refused-requires-4 c κs = search needs
+
+returns-3 : tie.Need-returns-3
+returns-3 c =
+    let x = c .before .before in
+    let n = x .before .before in
+    c .refused2 .ensures ∙ sym (no-count _ (n .before .if1 .left) _ (sym (n .number-at .ensures) ∙ x .q .given .1))
+
+returns-4 : tie.Need-returns-4
+returns-4 c =
+    let r = c .before in
+    let m = r .before .before in
+    let x = m .before .before .before in
+    let n = x .before .before in
+    sym (member-no _ (n .before .if1 .left) _ _ (sym (n .number-at .ensures) ∙ x .count .given .1) (m .before .if2 .left) _ (sym (m .read-members .ensures) ∙ ap endsOf (r .r .given .1)))
+
+returns-5 : tie.Need-returns-5
+returns-5 c =
+    let e = c .before .before .before in
+    let m = e .before .before in
+    let x = m .before .before .before in
+    let n = x .before .before in
+    c .refused4 .ensures
+    ∙ sym (bytes-left _ (n .before .if1 .left) _ _ (sym (n .number-at .ensures) ∙ x .count .given .1) (m .before .if2 .left) _ (sym (m .read-members .ensures) ∙ ap endsOf (e .end .given .1)) (c .before .if3 .taken))
+
+returns-6 : tie.Need-returns-6
+returns-6 c =
+    let e = c .before .before in
+    let m = e .before .before in
+    let x = m .before .before .before in
+    let n = x .before .before in
+    sym (all-read _ (n .before .if1 .left) _ _ (sym (n .number-at .ensures) ∙ x .count .given .1) (m .before .if2 .left) _ (sym (m .read-members .ensures) ∙ ap endsOf (e .end .given .1)) (c .if3 .left))
+
+pub survey-spec : {M : Type 1} → statement M
+survey-spec =
+    tie.close
+    (tie.spec
+    refused-requires
+    returns
+    number-at-requires
+    enum-known-q
+    refused-requires-2
+    enum-known-count
+    refused-requires-3
+    returns-2
+    read-members-requires
+    enum-known-r
+    enum-known-end
+    refused-requires-4
+    returns-3
+    returns-4
+    returns-5
+    returns-6)

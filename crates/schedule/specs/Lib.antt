@@ -1,0 +1,3 @@
+pub mod Reading
+pub mod Schedule
+pub mod Result

@@ -1,0 +1,36 @@
+-- What the code's results say, in the terms of the definitions.
+use Prim.Native.Nat.{ℕ}
+use mathlib.Core.List.{List}
+use lib.ListN.{length}
+use Rattle.question.specs.declared.Question.{Question}
+use Rattle.question.specs.declared.Refusal.{Refusal}
+use Rattle.member.specs.Member.{Member}
+use Rattle.built.specs.declared.Built.{Built}
+use Rattle.schedule.specs.declared.Run.{Run}
+use Rattle.schedule.specs.declared.MemberRead.{MemberRead}
+use Rattle.schedule.specs.declared.Ends.{Ends}
+use Rattle.schedule.specs.declared.Ends.the-variants.{At}
+use Rattle.schedule.specs.declared.Ends.the-variants as ends
+use Rattle.schedule.specs.declared.Answer.{Answer}
+use Rattle.schedule.specs.declared.Answer.the-variants.{Accepted, Refused}
+use Rattle.schedule.specs.Reading.{Reading, got, no, Placed, placed, passed}
+
+abbrev pub runOf : Run → Reading Question (Placed (List ℕ))
+runOf r = passed (r .verdict) (got (placed (r .slots .v) (r .next)))
+
+abbrev pub readOf : MemberRead → Reading Question (Placed Built)
+readOf r = passed (r .verdict) (got (placed (r .member) (r .next)))
+
+abbrev pub endsOf : Ends → Reading Refusal ℕ
+endsOf (At p) = got p
+endsOf (ends.Refused r) = no r
+
+-- where a row of members ends
+abbrev pub placeAfter : Reading Refusal (Placed (List Member)) → Reading Refusal ℕ
+placeAfter (got ms) = got (ms .next)
+placeAfter (no r) = no r
+
+-- the number of members, or the refusal
+abbrev pub answerOf : Reading Refusal (List Member) → Answer
+answerOf (got ms) = Accepted (length ms)
+answerOf (no r) = Refused r

@@ -1,0 +1,80 @@
+-- The schedule that bytes define, or the first question answered no, with its member (document 01, "Schedule bytes" and "Questions before any
+-- check").
+use Prim.Native.Nat.{ℕ, zero, suc, _+_}
+use mathlib.Core.Bool.{Bool, _&&_}
+use mathlib.Core.List.{List, [], _∷_}
+use lib.Dec.{leb, ltb}
+use lib.ListN.{length, set, replicate}
+use Rattle.quantity.specs.Choice.{if_then_else_}
+use Rattle.question.specs.declared.Question.{Question}
+use Rattle.question.specs.declared.Question.the-variants.{Size, Count, Mark, Kind, Field, Trailing}
+use Rattle.question.specs.declared.Refusal.{Refusal}
+use Rattle.number.specs.Number.{numberAt}
+use Rattle.member.specs.Member.{Member}
+use Rattle.field.specs.declared.Domain.{Domain}
+use Rattle.field.specs.Domain.{holds, asked}
+use Rattle.field.specs.Fields.{fieldsOf, known}
+use Rattle.built.specs.declared.Built.{Built}
+use Rattle.built.specs.Slots.{memberOf}
+use Rattle.built.specs.Verdict.{markInRange, memberVerdict}
+use Rattle.schedule.specs.Reading.{Reading, got, Placed, placed, andThen, ask, ofNumber, passed, refusal, named}
+
+-- the number at p: 2 and 3, then question q
+abbrev pub checked : Question → (ℕ → Bool) → List ℕ → ℕ → Reading Question (Placed ℕ)
+checked q test s p = andThen (ofNumber (numberAt s p)) (λ x. ask q (test (x .value)) (got x))
+
+-- the field of domain d at p, into slot i of v; a group past its count is not there
+unfoldable pub field : Domain → List ℕ → ℕ → ℕ → List ℕ → Reading Question (Placed (List ℕ))
+field d s p i v =
+    if asked d v
+    then andThen (checked Field (holds d) s p) (λ x. got (placed (set v i (x .value)) (x .next)))
+    else got (placed v p)
+
+-- fields from p on, the first into slot i of v
+unfoldable pub fields : List Domain → List ℕ → ℕ → ℕ → List ℕ → Reading Question (Placed (List ℕ))
+fields [] s p i v = got (placed v p)
+fields (d ∷ ds) s p i v = andThen (field d s p i v) (λ r. fields ds s (r .next) (i + 1) (r .value))
+
+abbrev pub empty : List ℕ
+empty = replicate 40 0
+
+-- the member with this mark and kind, whose fields stand from p on: 7, then 8 to 10
+unfoldable pub whole : ℕ → ℕ → List ℕ → ℕ → Reading Question (Placed Built)
+whole mark kind s p =
+    andThen (fields (fieldsOf kind) s p 0 empty) (λ f.
+    passed (memberVerdict kind (f .value)) (got (placed (record { mark = mark; kind = kind; fields = record { v = f .value } }) (f .next))))
+
+-- 5: in range, and above the mark before
+unfoldable pub markRises : ℕ → ℕ → Bool
+markRises before mark = markInRange mark && ltb before mark
+
+-- the mark at p; the kind at p
+unfoldable pub markAt : List ℕ → ℕ → ℕ → Reading Question (Placed ℕ)
+markAt s p before = checked Mark (markRises before) s p
+
+unfoldable pub kindAt : List ℕ → ℕ → Reading Question (Placed ℕ)
+kindAt s p = checked Kind known s p
+
+-- the member at p: 5, 6, then the rest
+unfoldable pub member : List ℕ → ℕ → ℕ → Reading Question (Placed Built)
+member s p before =
+    andThen (markAt s p before) (λ m.
+    andThen (kindAt s (m .next)) (λ k.
+    whole (m .value) (k .value) s (k .next)))
+
+-- n members from p on, the first of them the i-th of the schedule
+unfoldable pub members : ℕ → List ℕ → ℕ → ℕ → ℕ → Reading Refusal (Placed (List Member))
+members zero s p before i = got (placed [] p)
+members (suc n) s p before i =
+    andThen (named i (member s p before)) (λ m.
+    andThen (members n s (m .next) (m .value .mark) (i + 1)) (λ ms.
+    got (placed (memberOf (m .value) ∷ ms .value) (ms .next))))
+
+-- the whole: 1, the count (2, 3, 4), the members, 11
+unfoldable pub schedule : List ℕ → Reading Refusal (List Member)
+schedule s =
+    ask (refusal Size 0) (leb (length s) 60000)
+    (andThen (named 0 (checked Count (λ n. leb n 500) s 0)) (λ n.
+    andThen (members (n .value) s (n .next) 0 1) (λ ms.
+    ask (refusal Trailing 0) (leb (length s) (ms .next))
+    (got (ms .value)))))

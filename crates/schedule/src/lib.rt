@@ -1,0 +1,295 @@
+// Reads the bytes of a schedule: every byte string is accepted or gets the first question answered no, with its member.
+ghost use mathlib.Core.Path.{_≡_};
+ghost use mathlib.Core.Bool.{true, _&&_};
+ghost use mathlib.Core.List.{List};
+ghost use Prim.Native.Nat.{ℕ, _+_, _<_, _≤_};
+ghost use lib.ListN.{set};
+ghost use Rattle.field.specs.Fields.{fieldsOf, known};
+ghost use Rattle.schedule.specs.Reading.{no, Placed, andThen, ofNumber, refusal};
+ghost use Rattle.schedule.specs.Schedule.{empty, field, fields, whole, markRises, markAt, kindAt, member, members, schedule};
+ghost use Rattle.schedule.specs.Result.{runOf, readOf, endsOf, placeAfter, answerOf};
+use built::Built;
+use built::Verdict;
+use built::mark_in_range;
+use built::member_verdict;
+use field::Domain;
+use field::Slots;
+use field::domain_at;
+use field::domain_holds;
+use field::field_count;
+use field::is_asked;
+use field::is_known;
+use number::Number;
+use number::number_at;
+use question::Question;
+use question::Refusal;
+
+// Fields read so far: refused, or the slots and the place after the last field.
+pub struct Run {
+    pub verdict: Verdict,
+    pub next: usize,
+    pub slots: Slots,
+}
+
+// A member read: refused, or the member and the place after it.
+pub struct MemberRead {
+    pub verdict: Verdict,
+    pub next: usize,
+    pub member: Built,
+}
+
+pub enum Answer {
+    // every question is passed; the number of members
+    Accepted(u32),
+    Refused(Refusal),
+}
+
+// Where a row of members ends, or the refusal.
+pub enum Ends {
+    At(usize),
+    Refused(Refusal),
+}
+
+fn both(a: bool, b: bool) -> bool
+    ensures { λ r. ⌜ r ≡ (a && b) ⌝ }
+{
+    if a { b } else { false }
+}
+
+fn refused(q: Question, member: u32) -> Answer
+    ensures { λ r. ⌜ r ≡ Answer.Refused (refusal q member) ⌝ }
+{
+    Answer::Refused(Refusal {
+        question: q,
+        member,
+    })
+}
+
+fn no_slots() -> Slots
+    ensures { λ r. ⌜ r .v ≡ empty ⌝ }
+{
+    Slots { v: [0; 40] }
+}
+
+fn stored(t: Slots, i: usize, x: u32) -> Slots
+    requires { ⌜ i < 40 ⌝ }
+    ensures { λ r. ⌜ r .v ≡ set (t .v) i x ⌝ }
+{
+    let mut u = t;
+    u.v[i] = x;
+    u
+}
+
+fn refused_run(q: Question) -> Run
+    ensures { λ r. ⌜ runOf r ≡ no q ⌝ }
+{
+    Run {
+        verdict: Verdict::Refused(q),
+        next: 0,
+        slots: no_slots(),
+    }
+}
+
+// The field of domain d at p, into slot i.
+fn read_field(src: &[u8], d: Domain, p: usize, i: usize, t: Slots) -> Run
+    requires { ⌜ i < 40 ⌝ }
+    ensures { λ r. ⌜ runOf r ≡ field d (now (src .entry)) p i (t .v) ⌝ }
+{
+    if is_asked(d, t) {
+        match number_at(src, p) {
+            Number::Refused(q) => refused_run(q),
+            Number::Value(x, next) => {
+                if domain_holds(d, x) {
+                    Run {
+                        verdict: Verdict::Accepted,
+                        next,
+                        slots: stored(t, i, x),
+                    }
+                } else {
+                    refused_run(Question::Field)
+                }
+            }
+        }
+    } else {
+        Run {
+            verdict: Verdict::Accepted,
+            next: p,
+            slots: t,
+        }
+    }
+}
+
+// One field more, unless the run is refused.
+fn read_on(src: &[u8], r: Run, d: Domain, i: usize) -> Run
+    requires { ⌜ i < 40 ⌝ }
+    ensures { λ q. ⌜ runOf q ≡ andThen (runOf r) (λ (x : Placed (List ℕ)). field d (now (src .entry)) (x .next) i (x .value)) ⌝ }
+{
+    let verdict = r.verdict;
+    let slots = r.slots;
+    match verdict {
+        Verdict::Accepted => read_field(src, d, r.next, i, slots),
+        Verdict::Refused(_) => r,
+    }
+}
+
+// The fields of a kind, from `at` on.
+fn read_fields(src: &[u8], at: usize, kind: u32) -> Run
+    requires { ⌜ known kind ≡ true ⌝ }
+    ensures { λ r. ⌜ runOf r ≡ fields (fieldsOf kind) (now (src .entry)) at 0 empty ⌝ }
+{
+    let n = field_count(kind);
+    let mut run = Run {
+        verdict: Verdict::Accepted,
+        next: at,
+        slots: no_slots(),
+    };
+    let mut i: usize = 0;
+    while i < n {
+        run = read_on(src, run, domain_at(kind, i), i);
+        i += 1;
+    }
+    run
+}
+
+fn refused_member(q: Question) -> MemberRead
+    ensures { λ r. ⌜ readOf r ≡ no q ⌝ }
+{
+    let fields = no_slots();
+    MemberRead {
+        verdict: Verdict::Refused(q),
+        next: 0,
+        member: Built {
+            mark: 0,
+            kind: 0,
+            fields,
+        },
+    }
+}
+
+// The member with this mark and kind, whose fields stand from `at` on.
+fn read_whole(src: &[u8], at: usize, mark: u32, kind: u32) -> MemberRead
+    requires { ⌜ known kind ≡ true ⌝ }
+    ensures { λ r. ⌜ readOf r ≡ whole mark kind (now (src .entry)) at ⌝ }
+{
+    let run = read_fields(src, at, kind);
+    let verdict = run.verdict;
+    let fields = run.slots;
+    match verdict {
+        Verdict::Refused(q) => refused_member(q),
+        Verdict::Accepted => MemberRead {
+            verdict: member_verdict(kind, fields),
+            next: run.next,
+            member: Built { mark, kind, fields },
+        },
+    }
+}
+
+// 5: a mark in range, and above the one before.
+fn mark_rises(before: u32, mark: u32) -> bool
+    ensures { λ r. ⌜ r ≡ markRises before mark ⌝ }
+{
+    both(mark_in_range(mark), before < mark)
+}
+
+// The mark at `at`: questions 2, 3 and 5.
+fn read_mark(src: &[u8], at: usize, before: u32) -> Number
+    ensures { λ r. ⌜ ofNumber r ≡ markAt (now (src .entry)) at before ⌝ }
+{
+    match number_at(src, at) {
+        Number::Refused(q) => Number::Refused(q),
+        Number::Value(x, next) => {
+            if mark_rises(before, x) {
+                Number::Value(x, next)
+            } else {
+                Number::Refused(Question::Mark)
+            }
+        }
+    }
+}
+
+// The kind at `at`: questions 2, 3 and 6.
+fn read_kind(src: &[u8], at: usize) -> Number
+    ensures { λ r. ⌜ ofNumber r ≡ kindAt (now (src .entry)) at ⌝ }
+{
+    match number_at(src, at) {
+        Number::Refused(q) => Number::Refused(q),
+        Number::Value(x, next) => {
+            if is_known(x) {
+                Number::Value(x, next)
+            } else {
+                Number::Refused(Question::Kind)
+            }
+        }
+    }
+}
+
+// The member at `at`, its mark above the one before.
+pub fn read_member(src: &[u8], at: usize, before: u32) -> MemberRead
+    ensures { λ r. ⌜ readOf r ≡ member (now (src .entry)) at before ⌝ }
+{
+    match read_mark(src, at, before) {
+        Number::Refused(q) => refused_member(q),
+        Number::Value(mark, p) => match read_kind(src, p) {
+            Number::Refused(q) => refused_member(q),
+            Number::Value(kind, next) => read_whole(src, next, mark, kind),
+        },
+    }
+}
+
+// `count` members from `at` on: where they end, or the refusal.
+fn read_members(src: &[u8], at: usize, count: u32) -> Ends
+    requires { ⌜ count ≤ 500 ⌝ }
+    ensures { λ r. ⌜ endsOf r ≡ placeAfter (members count (now (src .entry)) at 0 1) ⌝ }
+{
+    let mut p = at;
+    let mut before: u32 = 0;
+    let mut i: u32 = 1;
+    let mut left = count;
+    while 0 < left {
+        let r = read_member(src, p, before);
+        let verdict = r.verdict;
+        let m = r.member;
+        match verdict {
+            Verdict::Refused(q) => {
+                return Ends::Refused(Refusal {
+                    question: q,
+                    member: i,
+                });
+            }
+            Verdict::Accepted => {
+                p = r.next;
+                before = m.mark;
+                i += 1;
+                left -= 1;
+            }
+        }
+    }
+    Ends::At(p)
+}
+
+// Every question that is put to a schedule before its report.
+pub fn survey(src: &[u8]) -> Answer
+    ensures { λ r. ⌜ r ≡ answerOf (schedule (now (src .entry))) ⌝ }
+{
+    if 60000 < src.len() {
+        return refused(Question::Size, 0);
+    }
+    match number_at(src, 0) {
+        Number::Refused(q) => refused(q, 0),
+        Number::Value(count, at) => {
+            if 500 < count {
+                return refused(Question::Count, 0);
+            }
+            match read_members(src, at, count) {
+                Ends::Refused(r) => Answer::Refused(r),
+                Ends::At(end) => {
+                    if end < src.len() {
+                        refused(Question::Trailing, 0)
+                    } else {
+                        Answer::Accepted(count)
+                    }
+                }
+            }
+        }
+    }
+}
