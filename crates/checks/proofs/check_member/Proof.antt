@@ -1,3 +1,6 @@
+use mathlib.Core.Path.{_≡_}
+use Rattle.member.specs.Accepted.{AcceptedBeam, AcceptedColumn, AcceptedMesh}
+use Rattle.checks.proofs.Safe.{as-beam, as-column, as-mesh, beam-outcome, column-outcome, mesh-outcome}
 use borrow.Author.Needs.{needs}
 use Rattle.checks.proofs.check_member.Statement.{statement}
 use Rattle.checks.proofs.check_member.Tie as tie
@@ -10,41 +13,34 @@ use Rattle.built.proofs.mesh_of.Reads as mesh-of-reads
 use Rattle.column.proofs.check_column.Reads as check-column-reads
 use Rattle.mesh.proofs.check_mesh.Reads as check-mesh-reads
 
--- src/lib.rt:24:25
 beam-of-requires : tie.Need-beam-of-requires
 beam-of-requires c κs = search needs
 
--- src/lib.rt:24:14
 check-beam-requires : tie.Need-check-beam-requires
-check-beam-requires c κs = ?
+check-beam-requires c κs = rw (c .beam-of .ensures) (as-beam _ _ (c .before .match .keys1) (c .before .before .before .pre))
 
--- src/lib.rt:25:27
 column-of-requires : tie.Need-column-of-requires
 column-of-requires c κs = search needs
 
--- src/lib.rt:25:14
 check-column-requires : tie.Need-check-column-requires
-check-column-requires c κs = ?
+check-column-requires c κs = rw (c .column-of .ensures) (as-column _ _ (c .before .match .keys2) (c .before .before .before .pre))
 
--- src/lib.rt:26:25
 mesh-of-requires : tie.Need-mesh-of-requires
 mesh-of-requires c κs = search needs
 
--- src/lib.rt:26:14
 check-mesh-requires : tie.Need-check-mesh-requires
-check-mesh-requires c κs = ?
+check-mesh-requires c κs =
+    rw (c .mesh-of .ensures) (as-mesh _ _ (c .before .match .rest .0 .1) (c .before .match .rest .1) (c .before .before .before .pre))
 
--- src/lib.rt:17:1
 returns : tie.Need-returns
-returns c = ?
+returns c = beam-outcome _ _ (c .before .before .match .keys1) (c .before .beam-of .ensures) (c .check-beam .ensures)
 
--- src/lib.rt:17:1
 returns-2 : tie.Need-returns-2
-returns-2 c = ?
+returns-2 c = column-outcome _ _ (c .before .before .match .keys2) (c .before .column-of .ensures) (c .check-column .ensures)
 
--- src/lib.rt:17:1
 returns-3 : tie.Need-returns-3
-returns-3 c = ?
+returns-3 c =
+    mesh-outcome _ _ (c .before .before .match .rest .0 .1) (c .before .before .match .rest .1) (c .before .mesh-of .ensures) (c .check-mesh .ensures)
 
 pub check-member-spec : {M : Type 1} → statement M
 check-member-spec =
