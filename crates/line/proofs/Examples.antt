@@ -2,19 +2,20 @@
 use Prim.Native.Nat.{ℕ}
 use mathlib.Core.Path.{_≡_, refl}
 use mathlib.Core.List.{List, [], _∷_, _++_}
-use Rattle.text.specs.Text.{digits, decimal, valueFrom, valueOf, every, isDecimal, joinedBy, endedBy, textOf, splitMore, split, lineOf, wordOf}
+use Rattle.text.specs.Text.{digits, decimal, valueFrom, valueOf, every, isDecimal, joinedBy, endedBy, textOf, splitMore, split, wordOf}
 use Rattle.outcome.specs.declared.Check.the-variants.{Passed, Shear}
 use Rattle.outcome.specs.declared.Figure.the-variants.{Reached, Unreached}
 use Rattle.outcome.specs.declared.Outcome.{Outcome}
 use Rattle.outcome.specs.Outcome.{outcome}
-use Rattle.line.specs.Line.{lineWords, headWords, refusalWords, lineText, reportWords}
+use Rattle.line.specs.Line.{lineWords, refusalWords, lineText, reportWords}
 use Rattle.line.specs.Said.{figureSaid, saidBy}
 use Rattle.line.proofs.Said.{saidOf}
 
--- beam 1, column 2, mesh 3, and what their checks come to
+-- of marks and outcomes
 abbrev reportOf : List (ℕ × Outcome) → List ℕ
 reportOf members = textOf (reportWords (λ m. m .0) (λ m. m .1) members)
 
+-- beam 1, column 2, mesh 3
 abbrev beam : Outcome
 beam = outcome Passed (Reached 179495) (Reached 177587) (Reached 172) (Reached 1885)
 

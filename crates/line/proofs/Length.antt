@@ -1,16 +1,15 @@
 -- How long a line can be.
 use Prim.Native.Nat.{ℕ, _+_, _*_, _^_, _≤_, _<_}
-use mathlib.Core.Path.{_≡_, refl}
-use mathlib.Core.List.{List, [], _∷_, _++_}
+use mathlib.Core.Path.{_≡_}
+use mathlib.Core.List.{List, [], _∷_}
 use native.Mathlib.Omega.{arith}
 use lib.ListN.{length, length-append}
-use Rattle.text.specs.Text.{textOf, endedBy, decimal}
+use Rattle.text.specs.Text.{textOf, endedBy}
 use Rattle.text.proofs.All.{All, all-none, all-and}
 use Rattle.text.proofs.Decimal.{decimal-short}
 use Rattle.outcome.specs.declared.Figure.{Figure}
 use Rattle.outcome.specs.declared.Figure.the-variants.{Reached, Unreached}
 use Rattle.outcome.specs.declared.Outcome.{Outcome}
-use Rattle.outcome.specs.Outcome.{nameOf}
 use Rattle.line.specs.Line.{figureWord, lineWords, headWords, refusalWords, lineText}
 use Rattle.line.proofs.Text.{line-last, line-more, text-append}
 use Rattle.line.proofs.Names.{name-short}
@@ -46,9 +45,9 @@ line-short j k mark o p q h a b c d =
 pub head-short : (j n : ℕ) → 0 < j → n < 10 ^ j → length (lineText (headWords n)) ≤ j + 9
 head-short j n p h = rw (length-more, length-last) (omega (arith, decimal-short j n p h))
 
-pub refusal-short : (j k question m : ℕ) → 0 < j → 0 < k → question < 10 ^ j → m < 10 ^ k → length (lineText (refusalWords question m)) ≤ j + k + 17
-refusal-short j k question m p q h g =
-    rw (length-more, length-more, length-more, length-last) (omega (arith, decimal-short j question p h, decimal-short k m q g))
+pub refusal-short : (j k question member : ℕ) → 0 < j → 0 < k → question < 10 ^ j → member < 10 ^ k → length (lineText (refusalWords question member)) ≤ j + k + 17
+refusal-short j k question member p q h g =
+    rw (length-more, length-more, length-more, length-last) (omega (arith, decimal-short j question p h, decimal-short k member q g))
 
 -- lines of at most n bytes each
 pub text-short : (n : ℕ) {ls : List (List (List ℕ))} → All (λ l. length (lineText l) ≤ n) ls → length (textOf ls) ≤ length ls * n

@@ -35,10 +35,10 @@ pub head-graphic : (n : ℕ) → All (All Graphic) (headWords n)
 unfolding every
 head-graphic n = all-and (graphic _ refl) (all-and (decimal-graphic n) all-none)
 
-pub refusal-graphic : (question m : ℕ) → All (All Graphic) (refusalWords question m)
+pub refusal-graphic : (question member : ℕ) → All (All Graphic) (refusalWords question member)
 unfolding every
-refusal-graphic question m =
-    all-and (graphic _ refl) (all-and (decimal-graphic question) (all-and (graphic _ refl) (all-and (decimal-graphic m) all-none)))
+refusal-graphic question member =
+    all-and (graphic _ refl) (all-and (decimal-graphic question) (all-and (graphic _ refl) (all-and (decimal-graphic member) all-none)))
 
 -- ---- One line
 

@@ -1,6 +1,6 @@
 -- The text of lines, put together from words and from lines.
 use Prim.Native.Nat.{ℕ}
-use mathlib.Core.Path.{_≡_, refl, ap, sym, _∙_}
+use mathlib.Core.Path.{_≡_, refl}
 use mathlib.Core.List.{List, [], _∷_, _++_, append-assoc}
 use Rattle.text.specs.Text.{joinedBy, endedBy, textOf}
 use Rattle.text.specs.Put.{Put}

@@ -24,7 +24,7 @@ lineWords mark o =
     ∷ figureWord (o .fourth)
     ∷ []
 
--- the first line of a report: members n
+-- the first line of a report: members N
 abbrev pub headWords : ℕ → List (List ℕ)
 headWords n = (109 ∷ 101 ∷ 109 ∷ 98 ∷ 101 ∷ 114 ∷ 115 ∷ []) ∷ decimal n ∷ []
 
@@ -33,13 +33,13 @@ abbrev pub reportWords : {A : Type 0} → (A → ℕ) → (A → Outcome) → Li
 reportWords markOf outcomeOf members =
     headWords (length members) ∷ map (λ m. lineWords (markOf m) (outcomeOf m)) members
 
--- a refusal: refused question member m
+-- a refusal: refused N member M, the number of the question and of the member
 abbrev pub refusalWords : ℕ → ℕ → List (List ℕ)
-refusalWords question m =
+refusalWords question member =
     (114 ∷ 101 ∷ 102 ∷ 117 ∷ 115 ∷ 101 ∷ 100 ∷ [])
     ∷ decimal question
     ∷ (109 ∷ 101 ∷ 109 ∷ 98 ∷ 101 ∷ 114 ∷ [])
-    ∷ decimal m
+    ∷ decimal member
     ∷ []
 
 -- the text of one line, with its newline

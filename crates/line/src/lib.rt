@@ -47,7 +47,7 @@ pub fn name_of(c: Check) -> Word
 }
 
 // The word `w` and the separator after it.
-fn put_name(out: &mut [u8], at: usize, w: Word, separator: u8) -> usize
+fn put_label(out: &mut [u8], at: usize, w: Word, separator: u8) -> usize
     ensures { λ r. ⌜ Put (now (out .entry)) at (wordText w ++ (separator ∷ [])) (now (out .exit)) r ⌝ }
 {
     let p = put_word(out, at, w);
@@ -85,27 +85,27 @@ pub fn put_line(out: &mut [u8], at: usize, mark: u32, o: Outcome) -> usize
     let third = o.third;
     let fourth = o.fourth;
     let p = put_number(out, at, mark as u64, b' ');
-    let q = put_name(out, p, name_of(check), b' ');
+    let q = put_label(out, p, name_of(check), b' ');
     let s = put_figure(out, q, first, b' ');
     let t = put_figure(out, s, second, b' ');
     let u = put_figure(out, t, third, b' ');
     put_figure(out, u, fourth, b'\n')
 }
 
-// `members n` and a newline.
+// `members N` and a newline.
 pub fn put_head(out: &mut [u8], at: usize, n: u32) -> usize
     ensures { λ r. ⌜ Put (now (out .entry)) at (lineText (headWords n)) (now (out .exit)) r ⌝ }
 {
-    let p = put_name(out, at, word(7, *b"members "), b' ');
+    let p = put_label(out, at, word(7, *b"members "), b' ');
     put_number(out, p, n as u64, b'\n')
 }
 
-// `refused question member m` and a newline.
-pub fn put_refusal(out: &mut [u8], at: usize, question: u32, m: u32) -> usize
-    ensures { λ r. ⌜ Put (now (out .entry)) at (lineText (refusalWords question m)) (now (out .exit)) r ⌝ }
+// `refused N member M` and a newline.
+pub fn put_refusal(out: &mut [u8], at: usize, question: u32, member: u32) -> usize
+    ensures { λ r. ⌜ Put (now (out .entry)) at (lineText (refusalWords question member)) (now (out .exit)) r ⌝ }
 {
-    let p = put_name(out, at, word(7, *b"refused "), b' ');
+    let p = put_label(out, at, word(7, *b"refused "), b' ');
     let q = put_number(out, p, question as u64, b' ');
-    let s = put_name(out, q, word(6, *b"member  "), b' ');
-    put_number(out, s, m as u64, b'\n')
+    let s = put_label(out, q, word(6, *b"member  "), b' ');
+    put_number(out, s, member as u64, b'\n')
 }

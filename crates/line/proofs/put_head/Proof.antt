@@ -7,8 +7,8 @@ use Rattle.line.proofs.put_head.Tie as tie
 word-requires : tie.Need-word-requires
 word-requires c κs = search needs
 
-put-name-requires : tie.Need-put-name-requires
-put-name-requires c κs = search needs
+put-label-requires : tie.Need-put-label-requires
+put-label-requires c κs = search needs
 
 put-number-requires : tie.Need-put-number-requires
 put-number-requires c κs = search needs
@@ -20,8 +20,8 @@ returns : tie.Need-returns
 returns c =
     let n = c .before .before in
     let m = n .before .before .before .before in
-    put-more _ _ _ (rw (m .before .word .ensures) at (m .put-name .ensures)) (put-end _ (n .put-number .ensures))
+    put-more _ _ _ (rw (m .before .word .ensures) at (m .put-label .ensures)) (put-end _ (n .put-number .ensures))
 
 pub put-head-spec : {M : Type 1} → statement M
 put-head-spec =
-    tie.close (tie.spec word-requires put-name-requires put-number-requires same-length returns)
+    tie.close (tie.spec word-requires put-label-requires put-number-requires same-length returns)

@@ -10,8 +10,8 @@ put-number-requires c κs = search needs
 name-of-requires : tie.Need-name-of-requires
 name-of-requires c κs = search needs
 
-put-name-requires : tie.Need-put-name-requires
-put-name-requires c κs = search needs
+put-label-requires : tie.Need-put-label-requires
+put-label-requires c κs = search needs
 
 put-figure-requires : tie.Need-put-figure-requires
 put-figure-requires c κs = search needs
@@ -37,7 +37,7 @@ returns c =
     let name = first .before .before .before .before in
     let mark = name .before .before .before .before .before in
     put-more _ _ _ (mark .put-number .ensures)
-    (put-more _ _ _ (rw (name .before .name-of .ensures) at (name .put-name .ensures))
+    (put-more _ _ _ (rw (name .before .name-of .ensures) at (name .put-label .ensures))
     (put-more _ _ _ (first .put-figure .ensures)
     (put-more _ _ _ (second .put-figure2 .ensures)
     (put-more _ _ _ (third .put-figure3 .ensures) (put-end _ (fourth .put-figure4 .ensures))))))
@@ -48,7 +48,7 @@ put-line-spec =
     (tie.spec
     put-number-requires
     name-of-requires
-    put-name-requires
+    put-label-requires
     put-figure-requires
     put-figure-requires-2
     put-figure-requires-3
