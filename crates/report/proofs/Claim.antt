@@ -1,0 +1,1 @@
+-- Demand 3 of the report's text.
