@@ -1,5 +1,6 @@
 -- The report of a schedule and of one built member (document 01, "One schedule, printed"), the answer, and the buffer afterwards.
 use Prim.Native.Nat.{ℕ, zero, suc}
+use mathlib.Core.Path.{_≡_}
 use mathlib.Core.List.{List, [], _∷_, _++_}
 use lib.Dec.{leb}
 use lib.ListN.{length, drop}
@@ -9,6 +10,9 @@ use Rattle.line.specs.Line.{lineWords, reportWords, lineText}
 use Rattle.question.specs.declared.Question.{Question}
 use Rattle.question.specs.declared.Question.the-variants.{Buffer}
 use Rattle.question.specs.declared.Refusal.{Refusal}
+use Rattle.number.specs.declared.Number.{Number}
+use Rattle.number.specs.declared.Number.the-variants.{Value}
+use Rattle.number.specs.declared.Number.the-variants as numbers
 use Rattle.member.specs.Member.{Member}
 use Rattle.built.specs.declared.Built.{Built}
 use Rattle.built.specs.Slots.{memberOf}
@@ -39,6 +43,11 @@ abbrev pub bufferAfter : Reading Refusal (List ℕ) → List ℕ → List ℕ
 bufferAfter (got text) buffer = if leb (length text) (length buffer) then text ++ drop (length text) buffer else buffer
 bufferAfter (no r) buffer = buffer
 
+-- both, for a text that is asked for
+pub record Printed (whose : ℕ) (text before after : List ℕ) (answer : Answer) : Type 0 where
+  pub answer-is : answer ≡ answered whose (got text) (length before)
+  pub buffer-is : after ≡ bufferAfter (got text) before
+
 -- of a schedule's bytes
 abbrev pub printed : Reading Refusal (List Member) → Reading Refusal (List ℕ)
 printed (got ms) = got (reportText ms)
@@ -64,3 +73,8 @@ unfoldable pub linesFrom : ℕ → List ℕ → ℕ → ℕ → List ℕ
 linesFrom zero src p before = []
 linesFrom (suc n) src p before =
     withMember (member src p before) (λ b. memberText (memberOf (b .value)) ++ linesFrom n src (b .next) (b .value .mark))
+
+-- the place after a number
+abbrev pub placeAfter : Number → ℕ
+placeAfter (Value x next) = next
+placeAfter (numbers.Refused q) = 0
