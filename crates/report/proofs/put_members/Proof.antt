@@ -13,11 +13,6 @@ use Rattle.report.specs.Report.{linesFrom}
 use Rattle.report.proofs.Lines.{lines-none, lines-refused, lines-more, put-member}
 use Rattle.report.proofs.put_members.Statement.{statement}
 use Rattle.report.proofs.put_members.Tie as tie
-use Rattle.report.proofs.put_members.Reads as reads
-use Rattle.report.proofs.put_members.Lts as lts
-use Rattle.checks.proofs.check_member.Reads as check-member-reads
-use Rattle.line.proofs.put_line.Reads as put-line-reads
-use Rattle.schedule.proofs.read_member.Reads as read-member-reads
 
 abbrev Inv-loop : tie.InvT-loop
 Inv-loop src at count out₀ to p₀ before₀ left₀ q₀ out p before left q =
@@ -72,10 +67,13 @@ loop-again c =
     let e = k .before .before in
     let r = e .before .before .before in
     let l = r .before .before .loop in
-    let m = sym (r .read-member .ensures) ∙ read-got _ (e .enum-told2 .given .1) in
-    (put-length (w .put-line .ensures) ∙ l .inv .0, put-bounds (w .put-line .ensures) .1, λ d n v.
-    l .inv .2 d n (rw (lines-more (l .left) _ (l .p) (l .before) (r .before .loop-test .taken) _ _ m)
-    (put-then (put-member (r .read-member .result .member) _ (k .check-member .ensures) (w .put-line .ensures)) v)))
+    let m = sym (r .read-member .ensures) ∙ read-got _ (e .enum-told2 .given .1) in (
+      put-length (w .put-line .ensures) ∙ l .inv .0,
+      put-bounds (w .put-line .ensures) .1,
+      λ d n v.
+          l .inv .2 d n (rw (lines-more (l .left) _ (l .p) (l .before) (r .before .loop-test .taken) _ _ m)
+          (put-then (put-member (r .read-member .result .member) _ (k .check-member .ensures) (w .put-line .ensures)) v)),
+    )
 
 same-length-2 : tie.Need-same-length-2 Inv-loop μ-loop
 same-length-2 c = c .before .loop .inv .0
