@@ -1,6 +1,4 @@
 -- Demand 3 for the figures of one line: each printed figure against its clause's exact fraction.
-use Prim.Native.Nat.{ℕ}
-use mathlib.Core.Path.{_≡_}
 use Rattle.quantity.specs.Fraction.{Frac}
 use Rattle.quantity.specs.Safe.{NotAbove, NotBelow}
 use Rattle.outcome.specs.declared.Figure.{Figure}

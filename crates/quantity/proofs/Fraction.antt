@@ -1,46 +1,10 @@
 -- Laws of fractions: equality (`Same`) and order by cross-multiplying, respected by each operation; the distance of two.
 use Prim.Native.Nat.{ℕ, _+_, _-_, _*_, _<_, _≤_, min, max}
 use mathlib.Core.Path.{_≡_, refl, sym, ap, _∙_}
-use native.Mathlib.Nat.{
-  mul-one,
-  mul-add,
-  add-mul,
-  mul-assoc,
-  mul-comm,
-  mul-left-comm,
-  mul-sub,
-  mul-pos,
-  mul-le-mul-left,
-  mul-le-mul-right,
-  mul-mul-mul-comm,
-  eq-of-mul-eq-mul-right,
-  le-of-mul-le-mul-right,
-  lt-of-mul-lt-mul-right,
-  mul-lt-mul-of-pos-right,
-  min-eq-left,
-  min-eq-right,
-  max-eq-left,
-  max-eq-right,
-}
+use native.Mathlib.Nat.{mul-add, add-mul, mul-assoc, mul-comm, mul-left-comm, mul-sub, mul-pos, mul-le-mul-left, mul-le-mul-right, mul-mul-mul-comm, eq-of-mul-eq-mul-right, le-of-mul-le-mul-right, lt-of-mul-lt-mul-right, mul-lt-mul-of-pos-right, min-eq-left, min-eq-right, max-eq-left, max-eq-right}
 use native.Mathlib.Decide.{decLe}
 use native.Mathlib.Omega.{arith}
-use Rattle.quantity.specs.Fraction.{
-  Frac,
-  _//_,
-  whole,
-  Proper,
-  _⊕_,
-  _⊖_,
-  _⊗_,
-  _⊘_,
-  smaller,
-  larger,
-  held,
-  _≼_,
-  _≺_,
-  _≈_,
-  distance,
-}
+use Rattle.quantity.specs.Fraction.{Frac, _//_, Proper, _⊕_, _⊖_, _⊗_, _⊘_, smaller, larger, _≼_, _≺_, distance}
 use Rattle.quantity.proofs.Rounding.{expand}
 
 -- ---- A product goes into a difference, a smaller and a larger of two.

@@ -1,6 +1,6 @@
 -- A whole number that lies near a fraction: the errors of rounding and the size, carried from step to step of a formula.
 use Prim.Native.Nat.{ℕ, _+_, _-_, _*_, _/_, _<_, _≤_, min, max}
-use mathlib.Core.Path.{_≡_, refl, ap}
+use mathlib.Core.Path.{_≡_, ap}
 use native.Mathlib.Nat.{
   mul-one,
   mul-add,

@@ -1,25 +1,9 @@
 -- Laws of rounding, for any divisor.
-use Prim.Native.Nat.{ℕ, _+_, _-_, _*_, _/_, _<_, _≤_, min, max}
-use mathlib.Core.Path.{_≡_, refl, sym, ap, _∙_}
-use native.Mathlib.Nat.{
-  mul-add,
-  add-mul,
-  mul-assoc,
-  mul-comm,
-  mul-left-comm,
-  mul-sub,
-  le-antisymm,
-  le-trans,
-  mul-pos,
-  mul-le-mul-left,
-  mul-le-mul-right,
-  le-of-mul-le-mul-right,
-  lt-of-mul-lt-mul-right,
-  div-mul-le-self,
-  lt-div-mul-add,
-}
+use Prim.Native.Nat.{ℕ, _+_, _-_, _*_, _/_, _<_, _≤_}
+use mathlib.Core.Path.{_≡_}
+use native.Mathlib.Nat.{mul-add, add-mul, mul-assoc, mul-comm, mul-left-comm, le-antisymm, le-trans, mul-pos, mul-le-mul-left, mul-le-mul-right, le-of-mul-le-mul-right, lt-of-mul-lt-mul-right, div-mul-le-self, lt-div-mul-add}
 use native.Mathlib.Omega.{arith}
-use Rattle.quantity.specs.Rounding.{up, down, clamp}
+use Rattle.quantity.specs.Rounding.{up, down}
 
 -- Products written out: `simp expand (omega arith)` compares polynomials, with their monomials as unknowns.
 pub ruleset expand = (mul-add, add-mul, mul-assoc, mul-comm, mul-left-comm)

@@ -1,10 +1,9 @@
 -- Laws of safe figures: how a rounding gives one, and what a verdict by it says of the exact fraction.
 use Prim.Native.Nat.{ℕ, _+_, _-_, _*_, _<_, _≤_}
-use mathlib.Core.Path.{_≡_, sym}
 use native.Mathlib.Nat.{mul-pos, mul-le-mul-left, mul-le-mul-right, mul-lt-mul-of-pos-right}
 use native.Mathlib.Omega.{arith}
 use Rattle.quantity.specs.Rounding.{up, down}
-use Rattle.quantity.specs.Fraction.{Frac, _//_, whole, Proper, _⊕_, _⊖_, _≼_, _≺_, distance}
+use Rattle.quantity.specs.Fraction.{Frac, _//_, whole, Proper, _⊕_, _⊖_, _≼_, _≺_}
 use Rattle.quantity.specs.Safe.{NotAbove, NotBelow}
 use Rattle.quantity.proofs.Rounding.{expand, up-above, up-below, down-below, down-above}
 use Rattle.quantity.proofs.Fraction.{

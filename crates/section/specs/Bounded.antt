@@ -1,5 +1,5 @@
 -- What the checks use of the section of an accepted beam, for any materials within their bounds.
-use Prim.Native.Nat.{ℕ, _+_, _*_, _≤_, _<_}
+use Prim.Native.Nat.{_*_, _≤_}
 use mathlib.Core.Path.{_≡_}
 use Rattle.standard.specs.Bounds.{UsableConcrete, UsableSteel, WholeUpTo}
 use Rattle.section.specs.declared.Section.{Section}

@@ -1,7 +1,5 @@
 -- The symbols of document 01's steps for beams.
 use Prim.Native.Nat.{ℕ, _+_, _-_, _*_}
-use mathlib.Core.Bool.{Bool}
-use mathlib.Core.List.{List}
 use lib.Dec.{ltb}
 use Rattle.quantity.specs.declared.Stress.{Stress}
 use Rattle.quantity.specs.Unit.{newtons, millimetres, inUnits, inTenths, inHundredths}

@@ -1,9 +1,21 @@
 // What the checks of a beam use of its fields: dimensions, areas, sums over its bars, and the values of its materials.
+ghost use mathlib.Core.Path.{_≡_};
+ghost use Rattle.member.specs.Member.{beamOf};
+ghost use Rattle.member.specs.Accepted.{AcceptedBeam};
+ghost use Rattle.section.specs.Section.{sectionOf};
+use member::Beam;
+use member::effective_depth;
+use member::steel_area;
+use member::totals_of;
 use quantity::Force;
 use quantity::Length;
 use quantity::Stress;
 use standard::Concrete;
 use standard::Steel;
+use standard::area_of;
+use standard::concrete_of;
+use standard::fyv_of;
+use standard::steel_of;
 
 // Document 01's symbols stand beside the fields.
 pub struct Section {
@@ -36,4 +48,66 @@ pub struct Section {
     pub concrete: Concrete,
     pub steel: Steel,
     pub fyv: Stress,
+}
+
+fn wide(x: u32) -> u64
+    ensures { λ r. ⌜ r ≡ x ⌝ }
+{
+    x as u64
+}
+
+// (bf-b)·hf.
+fn flange_area(x: Beam) -> u64
+    requires { ⌜ AcceptedBeam (beamOf x) ⌝ }
+    ensures { λ r. ⌜ r ≡ sectionOf (beamOf x) .flange ⌝ }
+{
+    (x.bf.0 - x.b.0) * x.hf.0
+}
+
+// L, legs times area.
+fn link_area(x: Beam) -> u64
+    ensures { λ r. ⌜ r ≡ sectionOf (beamOf x) .links ⌝ }
+{
+    wide(x.legs) * wide(area_of(x.link))
+}
+
+// The section of an accepted beam.
+pub fn section_of(x: Beam) -> Section
+    requires { ⌜ AcceptedBeam (beamOf x) ⌝ }
+    ensures { λ r. ⌜ r ≡ sectionOf (beamOf x) ⌝ }
+{
+    let b = x.b;
+    let h = x.h;
+    let ac = x.ac;
+    let s = x.s;
+    let c = x.c;
+    let span = x.span;
+    let v = x.v;
+    let tension = x.tension;
+    let compression = x.compression;
+    let bars = totals_of(tension, x.tensions);
+    Section {
+        b: b,
+        h: h,
+        depth: effective_depth(x),
+        ac: ac,
+        flanged: x.b.0 < x.bf.0,
+        flange: flange_area(x),
+        tension: bars.area,
+        compression: steel_area(compression, x.compressions),
+        links: link_area(x),
+        squares: bars.squares,
+        diameters: bars.diameters,
+        s: s,
+        c: c,
+        span: span,
+        m: x.m,
+        mq: x.mq,
+        v: v,
+        environment: x.environment,
+        strict: x.strict,
+        concrete: concrete_of(x.concrete),
+        steel: steel_of(x.steel),
+        fyv: fyv_of(x.linkSteel),
+    }
 }

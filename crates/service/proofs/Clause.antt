@@ -1,6 +1,6 @@
 -- The clauses' own formulas are the steps without rounding, in other units: σ is f in 0.0001 N/mm², the width in 0.001 mm, the deflection in 0.01 mm.
-use Prim.Native.Nat.{ℕ, _+_, _-_, _*_, _^_, _<_, _≤_, min, max}
-use mathlib.Core.Path.{_≡_, refl}
+use Prim.Native.Nat.{ℕ, _-_, _*_, _^_, _<_, min}
+use mathlib.Core.Path.{_≡_}
 use mathlib.Core.Bool.{Bool, true, false}
 use native.Mathlib.Nat.{mul-pos, mul-assoc}
 use native.Mathlib.Omega.{arith}
@@ -9,27 +9,10 @@ use Rattle.quantity.specs.Rounding.{clamp}
 use Rattle.quantity.specs.Fraction.{Frac, _//_, whole, Proper, _⊕_, _⊖_, _⊗_, _⊘_, smaller, larger, held}
 use Rattle.quantity.specs.Unit.{exactStress}
 use Rattle.quantity.proofs.Rounding.{expand}
-use Rattle.quantity.proofs.Fraction.{
-  level,
-  Same,
-  same-refl,
-  same-trans,
-  same-sum,
-  same-difference,
-  same-smaller,
-  same-larger,
-  same-product,
-  product-smaller,
-  product-larger,
-  product-difference,
-  proper-difference,
-  proper-larger,
-  proper-product,
-}
+use Rattle.quantity.proofs.Fraction.{level, Same, same-trans, same-sum, same-difference, same-smaller, same-larger, same-product, product-smaller, product-larger, product-difference, proper-difference, proper-larger}
 use Rattle.quantity.proofs.Near.{times, over, same-times, same-over}
 use Rattle.section.specs.declared.Section.{Section}
-use Rattle.section.specs.Section.{b, h, h₀, l₀, c, flange, W, S, S′, E, D, Mq, ftk, Ec}
-use Rattle.section.specs.Bounded.{Bounded}
+use Rattle.section.specs.Section.{b, h, h₀, l₀, c, W, S, S′, E, D, Mq, ftk, Ec}
 use Rattle.service.specs.Exact.{As, f, p, ψ, exactWidth, Bs, θ, exactDeflection}
 use Rattle.service.proofs.Rounded.{
   stress*,

@@ -1,11 +1,10 @@
 -- How far each rounded step lies from the same step without rounding (the starred definitions), in thousandths, and its bound.
-use Prim.Native.Nat.{ℕ, _+_, _-_, _*_, _^_, _<_, _≤_, min, max}
-use mathlib.Core.Path.{_≡_}
+use Prim.Native.Nat.{ℕ, _-_, _*_, _^_, _<_, _≤_, min}
 use mathlib.Core.Bool.{Bool, true, false}
 use native.Mathlib.Nat.{mul-pos, mul-le-mul, mul-le-mul-right, mul-assoc, le-mul-of-pos-right}
 use native.Mathlib.Omega.{arith}
 use Rattle.quantity.specs.Choice.{if_then_else_}
-use Rattle.quantity.specs.Rounding.{up, down, clamp}
+use Rattle.quantity.specs.Rounding.{down, clamp}
 use Rattle.quantity.specs.Fraction.{Frac, _//_, whole, _⊕_, _⊖_, _⊗_, smaller, larger}
 use Rattle.quantity.proofs.Rounding.{expand, of-up-le}
 use Rattle.quantity.proofs.Near.{

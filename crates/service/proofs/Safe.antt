@@ -1,6 +1,6 @@
 -- The service figures are safe, and what their checks say of the exact inequalities; the sizes of the steps.
-use Prim.Native.Nat.{ℕ, _+_, _-_, _*_, _^_, _<_, _≤_}
-use mathlib.Core.Path.{_≡_, refl, sym, ap, _∙_}
+use Prim.Native.Nat.{ℕ, _-_, _*_, _^_, _<_, _≤_}
+use mathlib.Core.Path.{_≡_, refl}
 use mathlib.Core.Bool.{Bool, true, false}
 use native.Mathlib.Nat.{mul-pos, mul-le-mul-right, le-of-mul-le-mul-left}
 use native.Mathlib.Omega.{arith}
@@ -14,72 +14,33 @@ use Rattle.quantity.proofs.Fraction.{same-sym}
 use Rattle.quantity.proofs.Near.{Near, near-same, near-not-below}
 use Rattle.quantity.proofs.Safe.{limit-pass, limit-fail}
 use Rattle.section.specs.declared.Section.{Section}
-use Rattle.section.specs.Section.{b, h, h₀, l₀, c, flange, G, W, S, S′, E, D, Mq, ftk, Ec, fyk}
+use Rattle.section.specs.Section.{b, h, h₀, l₀, c, G, W, S, S′, E, D, Mq, ftk, Ec, fyk}
 use Rattle.section.specs.Bounded.{Bounded}
-use Rattle.service.specs.Steps.{
-  stressHolds,
-  steelStress,
-  stiffening,
-  meanStress,
-  crackSpacing,
-  widthOf,
-  σ,
-  q,
-  crackWidth,
-  widthLimit,
-  flexibility,
-  curvature,
-  shortTerm,
-  longTerm,
-  deflectionOf,
-  deflection,
-  bySpan,
-  spanDivisor,
-  deflectionHolds,
-}
+use Rattle.service.specs.Steps.{stressHolds, steelStress, crackSpacing, σ, q, crackWidth, widthLimit, flexibility, curvature, deflection, spanDivisor, deflectionHolds}
 use Rattle.service.specs.Exact.{
   exactWidth,
   exactWidthLimit,
   exactDeflection,
   exactDeflectionLimit,
+  inThousandths,
+  inHundredthsOfMm,
   StressHolds,
   WidthHolds,
   DeflectionHolds,
-  WidthDoubted,
-  DeflectionDoubted,
 }
-use Rattle.service.proofs.Rounded.{
-  stress*,
-  stiffening*,
-  mean*,
-  spacing*,
-  flexibility*,
-  curvature*,
-  short*,
-  long*,
-  near-stress,
-  near-stiffening,
-  near-mean,
-  near-spacing,
-  near-width,
-  near-flexibility,
-  near-curvature,
-  near-short,
-  near-long,
-  near-deflection,
-}
+use Rattle.service.proofs.Rounded.{stress*, stiffening*, mean*, spacing*, flexibility*, curvature*, near-stress, near-stiffening, near-mean, near-spacing, near-width, near-flexibility, near-curvature, near-short, near-long, near-deflection}
 use Rattle.service.proofs.Sizes.{divisor-between}
 use Rattle.service.proofs.Clause.{width-same, deflection-same}
 
 -- ---- What the checks before give: 4.4.1 bounds the stress for any fyk up to 600, and 6.3.1 the steel ratio.
 
-pub stress-holds : (x : Section) → stressHolds x ≡ true → StressHolds x
+pub stress-pass : (x : Section) → stressHolds x ≡ true → StressHolds x
 unfolding stressHolds
-stress-holds x e = leb-true _ _ e
+stress-pass x e = leb-true _ _ e
 
-pub stress-fails : (x : Section) → stressHolds x ≡ false → StressHolds x → ⊥
+pub stress-fail : (x : Section) → stressHolds x ≡ false → StressHolds x → ⊥
 unfolding stressHolds
-stress-fails x e h = let t = leb-false (10 ^ 6 * Mq x) (87 * fyk x * h₀ x * S x) e in omega arith
+stress-fail x e h = let t = leb-false (10 ^ 6 * Mq x) (87 * fyk x * h₀ x * S x) e in omega arith
 
 stress-core : (m k d s : ℕ) → 0 < d → 0 < s → k ≤ 600 → 10 ^ 6 * m ≤ 87 * k * d * s → 10 ^ 10 * m ≤ 6000000 * (87 * d * s)
 stress-core m k d s p q u v = simp expand (omega (arith, simp expand at v, mul-le-mul-right (d * s) u))
@@ -88,7 +49,7 @@ pub σ-most : (x : Section) → Bounded x → stressHolds x ≡ true → σ x �
 unfolding σ steelStress
 σ-most x a e =
     let d : 0 < 87 * h₀ x * S x = mul-pos (mul-pos (omega arith) (a .h₀-least)) (a .S-least) in
-    up-le d (stress-core (Mq x) (fyk x) (h₀ x) (S x) (a .h₀-least) (a .S-least) (a .steel .fyk .most) (stress-holds x e))
+    up-le d (stress-core (Mq x) (fyk x) (h₀ x) (S x) (a .h₀-least) (a .S-least) (a .steel .fyk .most) (stress-pass x e))
 
 web-most : (x : Section) → G x ≤ 50 * S x → W x ≤ 100 * S x
 web-most x h = omega arith
@@ -185,25 +146,27 @@ module _ (x : Section) (a : Bounded x) (e : stressHolds x ≡ true) where
   abbrev span : Frac
   span = whole 100 ⊗ (l₀ x // spanDivisor (l₀ x) (x .strict))
 
-  pub deflection-holds : deflectionHolds x ≡ true → DeflectionHolds x
+  pub deflection-pass : deflectionHolds x ≡ true → DeflectionHolds x
   unfolding deflectionHolds
-  deflection-holds t =
+  deflection-pass t =
       rw (deflection-limit x) (scale-≼ 100 (exactDeflection x) (l₀ x // spanDivisor (l₀ x) (x .strict)) (omega arith)
       (limit-pass span (span-proper (l₀ x) (x .strict)) (deflection-safe x a e)
       (span-core (deflection x) (l₀ x) (spanDivisor (l₀ x) (x .strict)) .0 (leb-true _ _ t))))
 
-  pub deflection-doubted : deflectionHolds x ≡ false → DeflectionDoubted x
+  pub deflection-fail : deflectionHolds x ≡ false →
+      inHundredthsOfMm (exactDeflectionLimit x) ⊖ inHundredthsOfMm (exactDeflection x) ≺ 12 // 10
   unfolding deflectionHolds
-  deflection-doubted t =
+  deflection-fail t =
       rw (deflection-limit x) (limit-fail span (span-proper (l₀ x) (x .strict)) (deflection-safe x a e)
       (span-core (deflection x) (l₀ x) (spanDivisor (l₀ x) (x .strict)) .1 (leb-false _ _ t)))
 
   module _ (g : G x ≤ 50 * S x) where
-    pub width-holds : leb (crackWidth x) (widthLimit x) ≡ true → WidthHolds x
-    width-holds t =
+    pub width-pass : leb (crackWidth x) (widthLimit x) ≡ true → WidthHolds x
+    width-pass t =
         scale-≼ 1000 (exactWidth x) (exactWidthLimit x) (omega arith)
         (limit-pass (whole 1000 ⊗ exactWidthLimit x) (width-limit-proper x) (width-safe x a e g) (width-limit x (crackWidth x) .0 (leb-true _ _ t)))
 
-    pub width-doubted : leb (crackWidth x) (widthLimit x) ≡ false → WidthDoubted x
-    width-doubted t =
+    pub width-fail : leb (crackWidth x) (widthLimit x) ≡ false →
+        inThousandths (exactWidthLimit x) ⊖ inThousandths (exactWidth x) ≺ 11 // 10
+    width-fail t =
         limit-fail (whole 1000 ⊗ exactWidthLimit x) (width-limit-proper x) (width-safe x a e g) (width-limit x (crackWidth x) .1 (leb-false _ _ t))

@@ -1,13 +1,12 @@
 -- What the code finds is the step, and within its bound.
 use Prim.Native.Nat.{ℕ, _+_, _-_, _*_, _^_, _≤_, _<_, min, max}
-use mathlib.Core.Path.{_≡_, refl, ap, _∙_, sym}
+use mathlib.Core.Path.{_≡_, _∙_}
 use mathlib.Core.Bool.{Bool, true, false}
-use native.Mathlib.Nat.{mul-pos}
 use native.Mathlib.Omega.{arith}
 use lib.Dec.{leb, ltb, eqb}
 use Rattle.quantity.specs.Choice.{if_then_else_}
 use Rattle.quantity.specs.Rounding.{up, down, clamp}
-use Rattle.quantity.proofs.Rounding.{expand, up-le}
+use Rattle.quantity.proofs.Rounding.{up-le}
 use Rattle.quantity.proofs.Product.{product-most}
 use Rattle.service.specs.Steps.{meanStress, crackSpacing, flexibility, curvature, shortTerm, longTerm, spanDivisor, bySpan}
 use Rattle.service.proofs.Rounded.{near-spacing, near-flexibility, near-long}

@@ -1,10 +1,9 @@
 -- Service checks of a beam as the clauses write them, over fractions in N, mm and N/mm²: 4.4.1, 4.4.2, 4.5.1 (GB 7.1.2, 7.1.4, 7.2.3, 7.2.5).
-use Prim.Native.Nat.{ℕ, _+_, _-_, _*_, _^_, _≤_, min}
-use mathlib.Core.Bool.{Bool}
+use Prim.Native.Nat.{_*_, _^_, _≤_, min}
 use lib.Dec.{leb, ltb, eqb}
 use Rattle.quantity.specs.Choice.{if_then_else_}
 use Rattle.quantity.specs.Rounding.{clamp}
-use Rattle.quantity.specs.Fraction.{Frac, _//_, whole, _⊕_, _⊖_, _⊗_, _⊘_, held, _≼_, _≺_}
+use Rattle.quantity.specs.Fraction.{Frac, _//_, whole, _⊕_, _⊖_, _⊗_, _⊘_, held, _≼_}
 use Rattle.quantity.specs.Unit.{exactStress}
 use Rattle.standard.specs.Steel.{Es}
 use Rattle.section.specs.declared.Section.{Section}
@@ -75,11 +74,3 @@ WidthHolds x = exactWidth x ≼ exactWidthLimit x
 
 abbrev pub DeflectionHolds : Section → Type 0
 DeflectionHolds x = exactDeflection x ≼ exactDeflectionLimit x
-
--- What is left where a check with a figure is named: its inequality fails (the difference is 0), or holds by less than the figure's
--- distance, 0.0011 mm and 0.012 mm.
-abbrev pub WidthDoubted : Section → Type 0
-WidthDoubted x = inThousandths (exactWidthLimit x) ⊖ inThousandths (exactWidth x) ≺ 11 // 10
-
-abbrev pub DeflectionDoubted : Section → Type 0
-DeflectionDoubted x = inHundredthsOfMm (exactDeflectionLimit x) ⊖ inHundredthsOfMm (exactDeflection x) ≺ 12 // 10

@@ -1,12 +1,13 @@
 -- The table of bars: its areas by diameter, and its rule.
-use Prim.Native.Nat.{ℕ, _<_, _≤_}
+use Prim.Native.Nat.{ℕ, _≤_}
 use mathlib.Core.Path.{_≡_, sym, _∙_}
-use mathlib.Core.Bool.{Bool}
+use mathlib.Core.Bool.{Bool, _||_}
+use borrow.Author.Tests.{le-ltb}
 use mathlib.Core.List.{List, [], _∷_}
 use native.Mathlib.Decide.{decLe}
 use native.Mathlib.Omega.{arith}
-use lib.Dec.{eqb, eqb→eq, leb, leb→le}
-use lib.ListN.{getD, length, List·getD-eq-default}
+use lib.Dec.{eqb, eqb→eq, leb, leb→le, ltb}
+use lib.ListN.{getD, List·getD-eq-default}
 use Rattle.standard.specs.Bars.{bars, areaOf}
 use Rattle.standard.proofs.Table.{every-at, no-row}
 
@@ -37,3 +38,14 @@ area-most d = rw (← by-diameter d) (go (decLe 51 d))
     go : Dec (51 ≤ d) → getD byDiameter d 0 ≤ 19635
     go (yes h) = rw (List·getD-eq-default byDiameter 0 h) (omega arith)
     go (no h) = leb→le (getD byDiameter d 0) 19635 (every-at most 0 byDiameter tt d (omega arith))
+
+small : ℕ → ℕ → Bool
+small d a = ltb 12 d || leb a 1131
+
+-- no bar up to 12 mm is larger than that of 12 mm
+pub link-area-most : (d : ℕ) → d ≤ 12 → areaOf d ≤ 1131
+unfolding byDiameter small
+link-area-most d h =
+    let a = getD byDiameter d 0 in
+    let t = every-at small 0 byDiameter tt d (omega arith) in
+    rw (← by-diameter d) (leb→le a 1131 (rw (le-ltb 12 d h) at t))

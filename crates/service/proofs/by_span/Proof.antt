@@ -1,8 +1,6 @@
 -- `service::by_span` meets its contract.
 use native.Mathlib.Omega.{arith}
-use Prim.Native.Nat.{ℕ, _+_, _-_, _*_, _≤_, _<_, min, max}
-use mathlib.Core.Path.{_≡_, refl, sym, ap, _∙_}
-use Rattle.quantity.proofs.Product.{product-most}
+use Prim.Native.Nat.{_-_}
 use borrow.Author.Tests.{lt-ltb, le-ltb, le-leb, lt-leb}
 use Rattle.service.proofs.by_span.Statement.{statement}
 use Rattle.service.proofs.by_span.Tie as tie

@@ -1,13 +1,10 @@
 -- `service::crack_spacing_of` meets its contract.
 use Rattle.service.proofs.Sizes.{spacing-sized}
-use mathlib.Core.Path.{_≡_, ap, _∙_}
-use Prim.Native.Nat.{ℕ, _+_, _*_, _≤_, _<_}
+use Prim.Native.Nat.{_*_}
 use native.Mathlib.Nat.{mul-pos}
 use native.Mathlib.Omega.{arith}
-use Rattle.quantity.specs.Rounding.{clamp}
 use Rattle.quantity.proofs.Product.{product-most}
-use Rattle.service.specs.Steps.{crackSpacing}
-use Rattle.service.proofs.Rounded.{clamp-most, near-spacing}
+use Rattle.service.proofs.Rounded.{clamp-most}
 use borrow.Author.Needs.{needs}
 use Rattle.service.proofs.crack_spacing_of.Statement.{statement}
 use Rattle.service.proofs.crack_spacing_of.Tie as tie

@@ -1,6 +1,5 @@
 -- `service::curvature_of` meets its contract.
 use native.Mathlib.Omega.{arith}
-use Prim.Native.Nat.{ℕ, _+_, _*_, _≤_, _<_}
 use Rattle.quantity.proofs.Product.{product-most}
 use Rattle.service.proofs.Sizes.{curvature-sized}
 use borrow.Author.Needs.{needs}

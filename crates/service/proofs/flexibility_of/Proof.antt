@@ -1,6 +1,6 @@
 -- `service::flexibility_of` meets its contract.
 use native.Mathlib.Omega.{arith}
-use Prim.Native.Nat.{ℕ, _+_, _*_, _≤_, _<_}
+use Prim.Native.Nat.{_*_}
 use Rattle.quantity.proofs.Product.{product-most}
 use native.Mathlib.Nat.{mul-pos, mul-assoc}
 use Rattle.service.proofs.Sizes.{flexibility-sized}

@@ -1,10 +1,7 @@
 -- `service::long_term_of` meets its contract.
-use native.Mathlib.Omega.{arith}
-use Prim.Native.Nat.{ℕ, _+_, _-_, _*_, _≤_, _<_, min, max}
-use mathlib.Core.Path.{_≡_, refl, sym, ap, _∙_}
-use Rattle.quantity.proofs.Product.{product-most}
+use Prim.Native.Nat.{_-_}
+use mathlib.Core.Path.{refl}
 use mathlib.Core.Bool.{true, false}
-use Rattle.quantity.specs.Choice.{if_then_else_}
 use Rattle.service.proofs.Sizes.{long-sized}
 use borrow.Author.Needs.{needs}
 use Rattle.service.proofs.long_term_of.Statement.{statement}

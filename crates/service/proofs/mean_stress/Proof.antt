@@ -1,8 +1,6 @@
 -- `service::mean_stress` meets its contract.
 use native.Mathlib.Omega.{arith}
-use Prim.Native.Nat.{ℕ, _+_, _-_, _*_, _≤_, _<_, min, max}
-use mathlib.Core.Path.{_≡_, refl, sym, ap, _∙_}
-use Rattle.quantity.proofs.Product.{product-most}
+use Prim.Native.Nat.{_-_}
 use Rattle.service.specs.Steps.{q}
 use borrow.Author.Needs.{needs}
 use Rattle.service.proofs.mean_stress.Statement.{statement}

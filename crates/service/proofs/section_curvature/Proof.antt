@@ -1,5 +1,4 @@
 -- `service::section_curvature` meets its contract.
-use native.Mathlib.Omega.{arith}
 use borrow.Author.Needs.{needs}
 use Rattle.service.proofs.section_curvature.Statement.{statement}
 use Rattle.service.proofs.section_curvature.Tie as tie

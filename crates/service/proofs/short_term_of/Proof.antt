@@ -1,6 +1,6 @@
 -- `service::short_term_of` meets its contract.
 use native.Mathlib.Omega.{arith}
-use Prim.Native.Nat.{ℕ, _+_, _*_, _≤_, _<_}
+use Prim.Native.Nat.{_*_}
 use Rattle.quantity.proofs.Product.{product-most}
 use Rattle.service.proofs.Sizes.{short-sized}
 use borrow.Author.Needs.{needs}

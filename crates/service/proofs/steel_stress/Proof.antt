@@ -1,7 +1,5 @@
 -- `service::steel_stress` meets its contract.
-use mathlib.Core.Path.{_≡_}
 use native.Mathlib.Omega.{arith}
-use Prim.Native.Nat.{_≤_}
 use Rattle.service.specs.Steps.{σ}
 use Rattle.service.proofs.Safe.{σ-most}
 use borrow.Author.Needs.{needs}

@@ -1,7 +1,6 @@
 -- `service::stress_holds` meets its contract.
 use native.Mathlib.Omega.{arith}
-use Prim.Native.Nat.{ℕ, _+_, _-_, _*_, _≤_, _<_, min, max}
-use mathlib.Core.Path.{_≡_, refl, sym, ap, _∙_}
+use Prim.Native.Nat.{_-_, _*_}
 use Rattle.quantity.proofs.Product.{product-most}
 use Rattle.service.specs.Steps.{stressHolds}
 use borrow.Author.Needs.{needs}

@@ -1,8 +1,5 @@
 -- `service::width_limit` meets its contract.
-use native.Mathlib.Omega.{arith}
-use Prim.Native.Nat.{ℕ, _+_, _-_, _*_, _≤_, _<_, min, max}
-use mathlib.Core.Path.{_≡_, refl, sym, ap, _∙_}
-use Rattle.quantity.proofs.Product.{product-most}
+use Prim.Native.Nat.{_-_}
 use borrow.Author.Tests.{eq-eqb, ne-eqb}
 use Rattle.service.specs.Steps.{widthLimit}
 use Rattle.service.proofs.width_limit.Statement.{statement}

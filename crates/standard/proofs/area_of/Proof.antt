@@ -1,15 +1,6 @@
 -- `standard::area_of` meets its contract: its array by diameter holds the table's area at each place, and past its end the table has no bar.
-use Prim.Native.Nat.{ℕ, _<_, _≤_}
-use mathlib.Core.Bool.{Bool}
-use mathlib.Core.Path.{_≡_, sym, _∙_}
-use mathlib.Core.List.{List}
+use mathlib.Core.Path.{_∙_}
 use borrow.Author.Needs.{needs}
-use native.Mathlib.Decide.{decLe}
-use native.Mathlib.Omega.{arith}
-use lib.Dec.{eqb, eqb→eq}
-use lib.ListN.{getD, length, List·getD-eq-default}
-use Rattle.standard.specs.Bars.{areaOf}
-use Rattle.standard.proofs.Table.{every, every-at, no-row}
 use Rattle.standard.proofs.Bars.{byDiameter, by-diameter}
 use Rattle.standard.proofs.area_of.Statement.{statement}
 use Rattle.standard.proofs.area_of.Tie as tie

@@ -1,5 +1,4 @@
 -- `standard::by_height` meets its contract: each arm's range settles the comparisons.
-use Prim.Native.Nat.{_≤_, _<_}
 use borrow.Author.Tests.{le-leb, lt-leb}
 use native.Mathlib.Omega.{arith}
 use Rattle.standard.proofs.by_height.Statement.{statement}

@@ -1,9 +1,6 @@
 -- `standard::spacing_limit` meets its contract.
-use mathlib.Core.Path.{_∙_, ap}
-use Prim.Native.Nat.{ℕ}
 use borrow.Author.Needs.{needs}
-use Rattle.quantity.specs.Unit.{millimetres}
-use Rattle.standard.specs.Spacing.{byHeight, spacingLimit}
+use Rattle.standard.specs.Spacing.{spacingLimit}
 use Rattle.standard.proofs.spacing_limit.Statement.{statement}
 use Rattle.standard.proofs.spacing_limit.Tie as tie
 

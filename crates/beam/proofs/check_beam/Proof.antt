@@ -1,0 +1,23 @@
+use mathlib.Core.Path.{_∙_, ap}
+use Rattle.section.proofs.Bounded.{bounded}
+use Rattle.beam.specs.Checks.{sectionOutcome, beamOutcome}
+use borrow.Author.Needs.{needs}
+use Rattle.beam.proofs.check_beam.Statement.{statement}
+use Rattle.beam.proofs.check_beam.Tie as tie
+use Rattle.beam.proofs.check_beam.Reads as reads
+use Rattle.beam.proofs.check_beam.Lts as lts
+use Rattle.beam.proofs.check_section.Reads as check-section-reads
+use Rattle.section.proofs.section_of.Reads as section-of-reads
+
+section-of-requires : tie.Need-section-of-requires
+section-of-requires c κs = search needs
+
+check-section-requires : tie.Need-check-section-requires
+check-section-requires c κs = rw (c .section-of .ensures) (bounded _ (c .before .pre))
+
+returns : tie.Need-returns
+unfolding beamOutcome
+returns c = c .check-section .ensures ∙ ap sectionOutcome (c .before .section-of .ensures)
+
+pub check-beam-spec : {M : Type 1} → statement M
+check-beam-spec = tie.close (tie.spec section-of-requires check-section-requires returns)

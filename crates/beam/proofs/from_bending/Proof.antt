@@ -1,0 +1,49 @@
+use Rattle.beam.proofs.Chain.{bending-holds, bending-fails}
+use mathlib.Core.Path.{_≡_, sym, ap, _∙_}
+use borrow.Author.Tests.{le-leb, lt-leb}
+use Rattle.beam.specs.Checks.{fromBending}
+use borrow.Author.Needs.{needs}
+use Rattle.beam.proofs.from_bending.Statement.{statement}
+use Rattle.beam.proofs.from_bending.Tie as tie
+use Rattle.beam.proofs.from_bending.Reads as reads
+use Rattle.beam.proofs.from_bending.Lts as lts
+use Rattle.beam.proofs.after_bending.Reads as after-bending-reads
+use Rattle.beam.proofs.bending_check.Reads as bending-check-reads
+use Rattle.beam.proofs.from_shear.Reads as from-shear-reads
+use Rattle.bending.proofs.bending_capacity.Reads as bending-capacity-reads
+use Rattle.bending.proofs.is_deep.Reads as is-deep-reads
+
+bending-capacity-requires : tie.Need-bending-capacity-requires
+bending-capacity-requires c κs = (c .pre .0, c .pre .2)
+
+from-shear-requires : tie.Need-from-shear-requires
+from-shear-requires c κs = let p = c .before .before .before .pre in (p .0, p .1)
+
+is-deep-requires : tie.Need-is-deep-requires
+is-deep-requires c κs = c .before .before .before .pre .0
+
+bending-check-requires : tie.Need-bending-check-requires
+bending-check-requires c κs = search needs
+
+after-bending-requires : tie.Need-after-bending-requires
+after-bending-requires c κs = search needs
+
+returns : tie.Need-returns
+returns c = bending-holds _ _ _ (c .before .before .before .bending-capacity .ensures) (c .before .if1 .taken) (c .from-shear .ensures)
+
+returns-2 : tie.Need-returns-2
+returns-2 c =
+    bending-fails _ _ _ (c .before .before .before .before .before .bending-capacity .ensures) _ _ (c .before .before .before .if1 .left)
+    (c .before .before .is-deep .ensures) (c .before .bending-check .ensures) (c .after-bending .ensures)
+
+pub from-bending-spec : {M : Type 1} → statement M
+from-bending-spec =
+    tie.close
+    (tie.spec
+    bending-capacity-requires
+    from-shear-requires
+    is-deep-requires
+    bending-check-requires
+    after-bending-requires
+    returns
+    returns-2)

@@ -1,0 +1,36 @@
+use Prim.Native.Nat.{ℕ}
+use Rattle.quantity.specs.declared.Force.{Force}
+use Rattle.beam.proofs.Chain.{shear-holds, shear-fails}
+use mathlib.Core.Path.{_≡_, sym, ap, _∙_}
+use borrow.Author.Tests.{le-leb, lt-leb}
+use Rattle.beam.specs.Checks.{fromShear}
+use borrow.Author.Needs.{needs}
+use Rattle.beam.proofs.from_shear.Statement.{statement}
+use Rattle.beam.proofs.from_shear.Tie as tie
+use Rattle.beam.proofs.from_shear.Reads as reads
+use Rattle.beam.proofs.from_shear.Lts as lts
+use Rattle.beam.proofs.after_shear.Reads as after-shear-reads
+use Rattle.beam.proofs.from_spacing.Reads as from-spacing-reads
+use Rattle.shear.proofs.shear_capacity.Reads as shear-capacity-reads
+
+shear-capacity-requires : tie.Need-shear-capacity-requires
+shear-capacity-requires c κs = c .pre .0
+
+from-spacing-requires : tie.Need-from-spacing-requires
+from-spacing-requires c κs = let p = c .before .before .before .before .pre in (p .0, p .1)
+
+after-shear-requires : tie.Need-after-shear-requires
+after-shear-requires c κs = search needs
+
+returns : tie.Need-returns
+returns c =
+    shear-holds _ _ _ _ (ap (λ (f : Force). f .0) (c .before .before .before .before .shear-capacity .ensures)) (c .before .if1 .taken) (c .from-spacing .ensures)
+
+returns-2 : tie.Need-returns-2
+returns-2 c =
+    shear-fails _ _ _ _ (ap (λ (f : Force). f .0) (c .before .before .before .before .shear-capacity .ensures)) (c .before .if1 .left) (c .after-shear .ensures)
+
+pub from-shear-spec : {M : Type 1} → statement M
+from-shear-spec =
+    tie.close
+    (tie.spec shear-capacity-requires from-spacing-requires after-shear-requires returns returns-2)

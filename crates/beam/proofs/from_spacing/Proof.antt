@@ -1,0 +1,37 @@
+use mathlib.Core.Path.{sym, _∙_}
+use Rattle.beam.specs.Checks.{fromSpacing}
+use borrow.Author.Needs.{needs}
+use Rattle.beam.proofs.from_spacing.Statement.{statement}
+use Rattle.beam.proofs.from_spacing.Tie as tie
+use Rattle.beam.proofs.from_spacing.Reads as reads
+use Rattle.beam.proofs.from_spacing.Lts as lts
+use Rattle.beam.proofs.after_shear.Reads as after-shear-reads
+use Rattle.beam.proofs.from_least_links.Reads as from-least-links-reads
+use Rattle.shear.proofs.link_spacing.Reads as link-spacing-reads
+
+link-spacing-requires : tie.Need-link-spacing-requires
+link-spacing-requires c κs = c .pre .0
+
+from-least-links-requires : tie.Need-from-least-links-requires
+from-least-links-requires c κs = let p = c .before .before .pre in (p .0, p .1)
+
+after-shear-requires : tie.Need-after-shear-requires
+after-shear-requires c κs = search needs
+
+returns : tie.Need-returns
+unfolding fromSpacing
+returns c = rw (sym (c .before .before .link-spacing .ensures) ∙ c .before .if1 .taken) (c .from-least-links .ensures)
+
+returns-2 : tie.Need-returns-2
+unfolding fromSpacing
+returns-2 c = rw (sym (c .before .before .link-spacing .ensures) ∙ c .before .if1 .left) (c .after-shear .ensures)
+
+pub from-spacing-spec : {M : Type 1} → statement M
+from-spacing-spec =
+    tie.close
+    (tie.spec
+    link-spacing-requires
+    from-least-links-requires
+    after-shear-requires
+    returns
+    returns-2)

@@ -1,0 +1,79 @@
+-- The checks of a beam in document 01's order: they stop at the first failure, and a figure is worked out when its check is reached.
+use Prim.Native.Nat.{ℕ}
+use lib.Dec.{leb}
+use Rattle.quantity.specs.Choice.{if_then_else_}
+use Rattle.outcome.specs.declared.Check.{Check}
+use Rattle.outcome.specs.declared.Check.the-variants.{
+  Passed,
+  LeastSteel,
+  CompressionDepth,
+  Bending,
+  ShallowBending,
+  Shear,
+  LinkSpacing,
+  LeastLinks,
+  ServiceStress,
+  CrackWidth,
+  Deflection,
+}
+use Rattle.outcome.specs.declared.Figure.{Figure}
+use Rattle.outcome.specs.declared.Figure.the-variants.{Reached, Unreached}
+use Rattle.outcome.specs.declared.Outcome.{Outcome}
+use Rattle.outcome.specs.Outcome.{outcome, stopped}
+use Rattle.member.specs.Member.{Beam}
+use Rattle.section.specs.declared.Section.{Section}
+use Rattle.section.specs.Section.{sectionOf, M, Vd}
+use Rattle.bending.specs.Steps.{leastSteel, compressionDepth, isDeep, bendingCapacity}
+use Rattle.shear.specs.Steps.{shearCapacity, linkSpacing, leastLinks}
+use Rattle.service.specs.Steps.{stressHolds, crackWidth, widthLimit, deflection, deflectionHolds}
+
+-- Each check, from the last to the first, with the figures before it (moment, shear, width).
+
+unfoldable pub fromDeflection : Section → ℕ → ℕ → ℕ → Outcome
+fromDeflection x moment shear width =
+    outcome (if deflectionHolds x then Passed else Deflection) (Reached moment) (Reached shear) (Reached width) (Reached (deflection x))
+
+unfoldable pub fromWidth : Section → ℕ → ℕ → Outcome
+fromWidth x moment shear =
+    if leb (crackWidth x) (widthLimit x)
+    then fromDeflection x moment shear (crackWidth x)
+    else outcome CrackWidth (Reached moment) (Reached shear) (Reached (crackWidth x)) Unreached
+
+unfoldable pub fromStress : Section → ℕ → ℕ → Outcome
+fromStress x moment shear =
+    if stressHolds x
+    then fromWidth x moment shear
+    else outcome ServiceStress (Reached moment) (Reached shear) Unreached Unreached
+
+unfoldable pub fromLeastLinks : Section → ℕ → ℕ → Outcome
+fromLeastLinks x moment shear =
+    if leastLinks x
+    then fromStress x moment shear
+    else outcome LeastLinks (Reached moment) (Reached shear) Unreached Unreached
+
+unfoldable pub fromSpacing : Section → ℕ → ℕ → Outcome
+fromSpacing x moment shear =
+    if linkSpacing x
+    then fromLeastLinks x moment shear
+    else outcome LinkSpacing (Reached moment) (Reached shear) Unreached Unreached
+
+unfoldable pub fromShear : Section → ℕ → Outcome
+fromShear x moment =
+    if leb (Vd x) (shearCapacity x)
+    then fromSpacing x moment (shearCapacity x)
+    else outcome Shear (Reached moment) (Reached (shearCapacity x)) Unreached Unreached
+
+unfoldable pub fromBending : Section → Outcome
+fromBending x =
+    if leb (M x) (bendingCapacity x)
+    then fromShear x (bendingCapacity x)
+    else outcome (if isDeep x then Bending else ShallowBending) (Reached (bendingCapacity x)) Unreached Unreached Unreached
+
+unfoldable pub fromDepth : Section → Outcome
+fromDepth x = if compressionDepth x then fromBending x else stopped CompressionDepth
+
+unfoldable pub sectionOutcome : Section → Outcome
+sectionOutcome x = if leastSteel x then fromDepth x else stopped LeastSteel
+
+unfoldable pub beamOutcome : Beam → Outcome
+beamOutcome x = sectionOutcome (sectionOf x)

@@ -1,0 +1,230 @@
+// The checks of a beam.
+ghost use mathlib.Core.Path.{_≡_};
+ghost use mathlib.Core.Bool.{true};
+ghost use Prim.Native.Nat.{_*_, _≤_};
+ghost use Rattle.member.specs.Member.{beamOf};
+ghost use Rattle.member.specs.Accepted.{AcceptedBeam};
+ghost use Rattle.section.specs.Section.{G, S};
+ghost use Rattle.section.specs.Bounded.{Bounded};
+ghost use Rattle.bending.specs.Steps.{compressionDepth};
+ghost use Rattle.service.specs.Steps.{stressHolds, σ, q, crackWidth};
+ghost use Rattle.quantity.specs.Choice.{if_then_else_};
+ghost use Rattle.outcome.specs.Outcome.{outcome, stopped};
+ghost use Rattle.beam.specs.Checks.{fromDeflection, fromWidth, fromStress, fromLeastLinks, fromSpacing, fromShear, fromBending, fromDepth, sectionOutcome, beamOutcome};
+use bending::bending_capacity;
+use bending::compression_depth;
+use bending::is_deep;
+use bending::least_steel;
+use member::Beam;
+use outcome::Check;
+use outcome::Figure;
+use outcome::Outcome;
+use section::Section;
+use section::section_of;
+use service::crack_width;
+use service::deflection_figure;
+use service::deflection_holds;
+use service::mean_stress;
+use service::steel_stress;
+use service::stress_holds;
+use service::width_limit;
+use shear::least_links;
+use shear::link_spacing;
+use shear::shear_capacity;
+
+// An outcome after the shear check, without later figures.
+fn after_shear(check: Check, moment: u64, shear: u64) -> Outcome
+    ensures { λ r. ⌜ r ≡ outcome check (Figure.Reached moment) (Figure.Reached shear) Figure.Unreached Figure.Unreached ⌝ }
+{
+    Outcome {
+        check: check,
+        first: Figure::Reached(moment),
+        second: Figure::Reached(shear),
+        third: Figure::Unreached,
+        fourth: Figure::Unreached,
+    }
+}
+
+fn stop(check: Check) -> Outcome
+    ensures { λ r. ⌜ r ≡ stopped check ⌝ }
+{
+    Outcome {
+        check: check,
+        first: Figure::Unreached,
+        second: Figure::Unreached,
+        third: Figure::Unreached,
+        fourth: Figure::Unreached,
+    }
+}
+
+// OK, or the last check.
+fn last_check(holds: bool) -> Check
+    ensures { λ r. ⌜ r ≡ (if holds then Check.Passed else Check.Deflection) ⌝ }
+{
+    if holds {
+        Check::Passed
+    } else {
+        Check::Deflection
+    }
+}
+
+// 4.5.1, and OK where it holds.
+fn from_deflection(
+    x: Section,
+    moment: u64,
+    shear: u64,
+    width: u64,
+    stress: u64,
+    mean: u64,
+) -> Outcome
+    requires { ⌜ (Bounded x) × (stress ≡ σ x) × (stress ≤ 6000000) × (mean ≡ q x) × (mean ≤ 6000000) ⌝ }
+    ensures { λ r. ⌜ r ≡ fromDeflection x moment shear width ⌝ }
+{
+    let figure = deflection_figure(x, stress, mean);
+    Outcome {
+        check: last_check(deflection_holds(x, figure)),
+        first: Figure::Reached(moment),
+        second: Figure::Reached(shear),
+        third: Figure::Reached(width),
+        fourth: Figure::Reached(figure),
+    }
+}
+
+// 4.4.2.
+fn from_width(x: Section, moment: u64, shear: u64) -> Outcome
+    requires { ⌜ (Bounded x) × (G x ≤ 50 * S x) × (stressHolds x ≡ true) ⌝ }
+    ensures { λ r. ⌜ r ≡ fromWidth x moment shear ⌝ }
+{
+    let stress = steel_stress(x);
+    let mean = mean_stress(x, stress);
+    let width = crack_width(x, mean);
+    if width <= width_limit(x) {
+        from_deflection(x, moment, shear, width, stress, mean)
+    } else {
+        Outcome {
+            check: Check::CrackWidth,
+            first: Figure::Reached(moment),
+            second: Figure::Reached(shear),
+            third: Figure::Reached(width),
+            fourth: Figure::Unreached,
+        }
+    }
+}
+
+// 4.4.1.
+fn from_stress(x: Section, moment: u64, shear: u64) -> Outcome
+    requires { ⌜ (Bounded x) × (G x ≤ 50 * S x) ⌝ }
+    ensures { λ r. ⌜ r ≡ fromStress x moment shear ⌝ }
+{
+    if stress_holds(x) {
+        from_width(x, moment, shear)
+    } else {
+        after_shear(Check::ServiceStress, moment, shear)
+    }
+}
+
+// 5.5.6r.
+fn from_least_links(x: Section, moment: u64, shear: u64) -> Outcome
+    requires { ⌜ (Bounded x) × (G x ≤ 50 * S x) ⌝ }
+    ensures { λ r. ⌜ r ≡ fromLeastLinks x moment shear ⌝ }
+{
+    if least_links(x) {
+        from_stress(x, moment, shear)
+    } else {
+        after_shear(Check::LeastLinks, moment, shear)
+    }
+}
+
+// 5.5.6s.
+fn from_spacing(x: Section, moment: u64, shear: u64) -> Outcome
+    requires { ⌜ (Bounded x) × (G x ≤ 50 * S x) ⌝ }
+    ensures { λ r. ⌜ r ≡ fromSpacing x moment shear ⌝ }
+{
+    if link_spacing(x) {
+        from_least_links(x, moment, shear)
+    } else {
+        after_shear(Check::LinkSpacing, moment, shear)
+    }
+}
+
+// 4.3.3.
+fn from_shear(x: Section, moment: u64) -> Outcome
+    requires { ⌜ (Bounded x) × (G x ≤ 50 * S x) ⌝ }
+    ensures { λ r. ⌜ r ≡ fromShear x moment ⌝ }
+{
+    let shear = shear_capacity(x);
+    if x.v.0 <= shear.0 {
+        from_spacing(x, moment, shear.0)
+    } else {
+        after_shear(Check::Shear, moment, shear.0)
+    }
+}
+
+// 4.2.2 or 4.2.3.
+fn from_bending(x: Section) -> Outcome
+    requires { ⌜ (Bounded x) × (G x ≤ 50 * S x) × (compressionDepth x ≡ true) ⌝ }
+    ensures { λ r. ⌜ r ≡ fromBending x ⌝ }
+{
+    let moment = bending_capacity(x);
+    if x.m <= moment {
+        from_shear(x, moment)
+    } else {
+        after_bending(bending_check(is_deep(x)), moment)
+    }
+}
+
+// The bending check by its name: 4.2.2, or 4.2.3.
+fn bending_check(deep: bool) -> Check
+    ensures { λ r. ⌜ r ≡ (if deep then Check.Bending else Check.ShallowBending) ⌝ }
+{
+    if deep {
+        Check::Bending
+    } else {
+        Check::ShallowBending
+    }
+}
+
+// An outcome that stops with the moment.
+fn after_bending(check: Check, moment: u64) -> Outcome
+    ensures { λ r. ⌜ r ≡ outcome check (Figure.Reached moment) Figure.Unreached Figure.Unreached Figure.Unreached ⌝ }
+{
+    Outcome {
+        check: check,
+        first: Figure::Reached(moment),
+        second: Figure::Unreached,
+        third: Figure::Unreached,
+        fourth: Figure::Unreached,
+    }
+}
+
+// 4.2.2-3.
+fn from_depth(x: Section) -> Outcome
+    requires { ⌜ (Bounded x) × (G x ≤ 50 * S x) ⌝ }
+    ensures { λ r. ⌜ r ≡ fromDepth x ⌝ }
+{
+    if compression_depth(x) {
+        from_bending(x)
+    } else {
+        stop(Check::CompressionDepth)
+    }
+}
+
+// 6.3.1 and what follows.
+fn check_section(x: Section) -> Outcome
+    requires { ⌜ Bounded x ⌝ }
+    ensures { λ r. ⌜ r ≡ sectionOutcome x ⌝ }
+{
+    if least_steel(x) {
+        from_depth(x)
+    } else {
+        stop(Check::LeastSteel)
+    }
+}
+
+// The checks of an accepted beam.
+pub fn check_beam(x: Beam) -> Outcome
+    requires { ⌜ AcceptedBeam (beamOf x) ⌝ }
+    ensures { λ r. ⌜ r ≡ beamOutcome (beamOf x) ⌝ }
+{
+    check_section(section_of(x))
+}

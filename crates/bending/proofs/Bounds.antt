@@ -1,0 +1,44 @@
+-- How large the parts of the steps are in a section within its bounds.
+use Prim.Native.Nat.{ℕ, _-_, _*_, _≤_}
+use native.Mathlib.Nat.{mul-le-mul, mul-pos}
+use native.Mathlib.Omega.{arith}
+use Rattle.section.specs.declared.Section.{Section}
+use Rattle.section.specs.Section.{h₀, a′, G, S, ft, fy, e}
+use Rattle.section.specs.Bounded.{Bounded}
+use Rattle.bending.specs.Steps.{tensionForce, compressionForce, k}
+
+pub times-le : (a b m n : ℕ) → (a ≤ m) × (b ≤ n) → a * b ≤ m * n
+times-le a b m n p = mul-le-mul (p .0) (p .1)
+
+pub record Sizes (x : Section) : Type 0 where
+  -- 6.3.1
+  pub concrete : 45 * ft x * G x ≤ 90000000000
+  pub steel : 1000 * S x * fy x ≤ 480000000000
+  -- the forces
+  pub tension : tensionForce x ≤ 480000000
+  pub compression : compressionForce x ≤ 480000000
+  pub crushing-least : 1 ≤ k x
+  pub crushing-most : k x ≤ 400000
+  -- 4.2.2-3, 4.2.2, 4.2.3
+  pub depth : e x * h₀ x ≤ 200000
+  pub limit : e x * h₀ x * k x ≤ 80000000000
+  pub reach : 2 * a′ x * k x ≤ 1600000000
+  pub shallow : tensionForce x * (h₀ x - a′ x) ≤ 960000000000
+
+pub sizes : {x : Section} → Bounded x → Sizes x
+sizes {x} p =
+    let tension = mul-le-mul (p .steel .fy .most) (p .S-most) in
+    let crushing = mul-le-mul (p .concrete .fc-most) (p .b-most) in
+    let depth = mul-le-mul (p .steel .depth) (p .h₀-most) in
+    record {
+      concrete = times-le (45 * ft x) (G x) 18000 5000000 (omega (arith, p .concrete));
+      steel = times-le (1000 * S x) (fy x) 800000000 600 (omega (arith, p .steel .fy));
+      tension = tension;
+      compression = mul-le-mul (p .steel .fyc .most) (p .S′-most);
+      crushing-least = mul-pos (p .concrete .fc-least) (omega arith);
+      crushing-most = crushing;
+      depth = depth;
+      limit = mul-le-mul depth crushing;
+      reach = times-le (2 * a′ x) (k x) 4000 400000 (omega arith);
+      shallow = times-le (tensionForce x) (h₀ x - a′ x) 480000000 2000 (omega arith);
+    }

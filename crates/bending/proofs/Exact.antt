@@ -1,0 +1,158 @@
+-- The printed moment capacity is on the safe side of the clause's exact one, less than 1 N·m below it.
+use Prim.Native.Nat.{ℕ, _+_, _-_, _*_, _≤_, _<_}
+use mathlib.Core.Path.{_≡_, refl, sym, ap, _∙_}
+use mathlib.Core.Bool.{Bool, true, false, _||_}
+use native.Mathlib.Nat.{mul-pos, mul-assoc, mul-comm, mul-left-comm, le-of-mul-le-mul-right, mul-le-mul-right, not-le-of-lt, lt-of-not-le}
+use native.Mathlib.Omega.{arith}
+use lib.Dec.{leb, eqb}
+use borrow.Author.Tests.{leb-true, leb-false, le-leb, lt-leb}
+use Rattle.quantity.specs.declared.Stress.{Stress}
+use Rattle.quantity.specs.Choice.{if_then_else_}
+use Rattle.quantity.specs.Fraction.{Frac, _//_, whole, _⊕_, _⊖_, _⊗_, _⊘_, _≼_}
+use Rattle.quantity.specs.Safe.{NotAbove}
+use Rattle.quantity.specs.Unit.{inUnits, inTenths, exactStress}
+use Rattle.quantity.proofs.Fraction.{level, Same, same-refl, same-sym, same-trans, same-sum, same-difference, same-product, same-quotient, same-≼, ≼-same}
+use Rattle.quantity.proofs.Rounding.{expand}
+use Rattle.quantity.proofs.Safe.{down-not-above, same-not-above}
+use Rattle.section.specs.declared.Section.{Section}
+use Rattle.section.specs.Section.{b, h₀, a′, S, S′}
+use Rattle.section.specs.Bounded.{Bounded}
+use Rattle.bending.specs.Steps.{tensionForce, compressionForce, t, k, steelMoment, compressionDepth, isDeep, deepCapacity, shallowCapacity, bendingCapacity}
+use Rattle.bending.specs.Exact.{T, C, K, atMost, deep, deepMoment, shallowMoment, exactMoment}
+use Rattle.bending.proofs.Bounds.{sizes}
+use Rattle.bending.proofs.Tests.{deep-tension}
+use Rattle.bending.proofs.Capacity.{square-within}
+
+-- ---- Forces in N are those of the steps in tenths of N: a stress of m·u hundredths times n/d is u·n tenths.
+
+force-core : (f n u m d : ℕ) → f ≡ m * u → m * 10 ≡ 100 * d → f * n * 10 ≡ u * n * (100 * d)
+force-core f n u m d e g = rw (e, ← g) (simp (mul-assoc, mul-comm, mul-left-comm))
+
+force-same : (f : Stress) (n u m d : ℕ) → 0 < d → f .0 ≡ m * u → m * 10 ≡ 100 * d → Same (exactStress f ⊗ (n // d)) ((u * n) // 10)
+unfolding exactStress _⊗_
+force-same f n u m d p e g = record { pos = omega arith; pos′ = omega arith; same = force-core (f .0) n u m d e g }
+
+-- ---- Their differences, sums and products.
+
+difference-tenths : (p q : ℕ) → Same (p // 10 ⊖ q // 10) ((p - q) // 10)
+unfolding _⊖_
+difference-tenths p q = record { pos = omega arith; pos′ = omega arith; same = omega arith }
+
+sum-tenths : (q n k : ℕ) → Same (q // 10 ⊕ whole n ⊗ (k // 10)) ((q + n * k) // 10)
+unfolding _⊕_ _⊗_
+sum-tenths q n k = record { pos = omega arith; pos′ = omega arith; same = omega arith }
+
+moment-tenths : (t h q g : ℕ) → Same (t // 10 ⊗ whole h ⊕ q // 10 ⊗ whole g) ((t * h + q * g) // 10)
+unfolding _⊕_ _⊗_
+moment-tenths t h q g = record { pos = omega arith; pos′ = omega arith; same = omega arith }
+
+square-tenths : (t k : ℕ) → 0 < k → Same (t // 10 ⊗ (t // 10) ⊘ (whole 2 ⊗ (k // 10))) ((t * t) // (20 * k))
+unfolding _⊗_ _⊘_
+square-tenths t k p = record { pos = omega arith; pos′ = omega arith; same = simp expand (omega arith) }
+
+deep-tenths : (m y k : ℕ) → 0 < k → Same ((m // 10 ⊖ y // (20 * k)) ⊘ whole 1000) ((m * (2 * k) - y) // (2 * k * 10000))
+unfolding _⊖_ _⊘_
+deep-tenths m y k p = record { pos = omega arith; pos′ = omega arith; same = simp level (omega arith) }
+
+shallow-tenths : (p g : ℕ) → Same (p // 10 ⊗ whole g ⊘ whole 1000) ((p * g) // 10000)
+unfolding _⊗_ _⊘_
+shallow-tenths p g = record { pos = omega arith; pos′ = omega arith; same = omega arith }
+
+-- ---- A comparison of two fractions by their numerators over one denominator.
+
+leb-same : (a b m n : ℕ) → (a ≤ b → m ≤ n) → (m ≤ n → a ≤ b) → leb a b ≡ leb m n
+leb-same a b m n f g = go (leb a b) refl
+  where
+    go : (c : Bool) → leb a b ≡ c → leb a b ≡ leb m n
+    go true e = e ∙ sym (le-leb m n (f (leb-true a b e)))
+    go false e = e ∙ sym (lt-leb m n (lt-of-not-le (λ h. not-le-of-lt (leb-false a b e) (g h))))
+
+at-most-same : {a b : Frac} (p q d : ℕ) → Same a (p // d) → Same b (q // d) → atMost a b ≡ leb p q
+at-most-same {a} {b} p q d u v =
+    leb-same (a .num * b .den) (b .num * a .den) p q
+    (λ h. le-of-mul-le-mul-right (≼-same (p // d) v (same-≼ b u h)) (u .pos′))
+    (λ h. ≼-same a (same-sym v) (same-≼ (q // d) (same-sym u) (mul-le-mul-right d h)))
+
+module _ {x : Section} (p : Bounded x) where
+  T-same : Same (T x) (tensionForce x // 10)
+  unfolding T
+  T-same = force-same (x .steel .fy) (S x) (inUnits (x .steel .fy)) 100 10 (omega arith) (p .steel .fy .exact) refl
+
+  C-same : Same (C x) (compressionForce x // 10)
+  unfolding C
+  C-same = force-same (x .steel .fyc) (S′ x) (inUnits (x .steel .fyc)) 100 10 (omega arith) (p .steel .fyc .exact) refl
+
+  K-same : Same (K x) (k x // 10)
+  unfolding K
+  K-same = force-same (x .concrete .fc) (b x) (inTenths (x .concrete .fc)) 10 1 (omega arith) (p .concrete .fc-exact) refl
+
+  t-same : Same (T x ⊖ C x) (t x // 10)
+  t-same = same-trans (same-difference T-same C-same) (difference-tenths (tensionForce x) (compressionForce x))
+
+  -- Both definitions pick the same case.
+  pub deep-is : deep x ≡ isDeep x
+  unfolding deep isDeep
+  deep-is =
+      ap (λ (c : Bool). eqb (S′ x) 0 || c) (at-most-same (compressionForce x + 2 * a′ x * k x) (tensionForce x) 10
+      (same-trans (same-sum C-same (same-product (same-refl (whole (2 * a′ x)) (omega arith)) K-same)) (sum-tenths (compressionForce x) (2 * a′ x) (k x)))
+      T-same)
+
+  moment-same : Same ((T x ⊖ C x) ⊗ whole (h₀ x) ⊕ C x ⊗ whole (h₀ x - a′ x)) (steelMoment x // 10)
+  moment-same =
+      same-trans
+      (same-sum
+      (same-product t-same (same-refl (whole (h₀ x)) (omega arith)))
+      (same-product C-same (same-refl (whole (h₀ x - a′ x)) (omega arith))))
+      (moment-tenths (t x) (h₀ x) (compressionForce x) (h₀ x - a′ x))
+
+  doubled : 0 < (whole 2 ⊗ K x) .num
+  unfolding _⊗_ K exactStress
+  doubled = mul-pos (omega arith) (mul-pos (omega (arith, p .concrete)) (omega arith))
+
+  square-same : Same ((T x ⊖ C x) ⊗ (T x ⊖ C x) ⊘ (whole 2 ⊗ K x)) ((t x * t x) // (20 * k x))
+  unfolding _⊗_
+  square-same =
+      same-trans
+      (same-quotient (same-product t-same t-same) (same-product (same-refl (whole 2) (omega arith)) K-same) (doubled, omega (arith, sizes p)))
+      (square-tenths (t x) (k x) (sizes p .crushing-least))
+
+  deep-same : Same (deepMoment x) ((steelMoment x * (2 * k x) - t x * t x) // (2 * k x * 10000))
+  unfolding deepMoment
+  deep-same =
+      same-trans
+      (same-quotient (same-difference moment-same square-same) (same-refl (whole 1000) (omega arith)) (omega arith))
+      (deep-tenths (steelMoment x) (t x * t x) (k x) (sizes p .crushing-least))
+
+  shallow-same : Same (shallowMoment x) ((tensionForce x * (h₀ x - a′ x)) // 10000)
+  unfolding shallowMoment
+  shallow-same =
+      same-trans
+      (same-quotient (same-product T-same (same-refl (whole (h₀ x - a′ x)) (omega arith))) (same-refl (whole 1000) (omega arith)) (omega arith))
+      (shallow-tenths (tensionForce x) (h₀ x - a′ x))
+
+  deep-safe : NotAbove (deepCapacity x) (whole 1) (deepMoment x)
+  unfolding deepCapacity
+  deep-safe = same-not-above (omega arith) (same-sym deep-same) (down-not-above _ (2 * k x * 10000) (omega (arith, sizes p)))
+
+  shallow-safe : NotAbove (shallowCapacity x) (whole 1) (shallowMoment x)
+  unfolding shallowCapacity
+  shallow-safe = same-not-above (omega arith) (same-sym shallow-same) (down-not-above _ 10000 (omega arith))
+
+  pub moment-safe : NotAbove (bendingCapacity x) (whole 1) (exactMoment x)
+  unfolding bendingCapacity exactMoment
+  moment-safe = rw deep-is (go (isDeep x))
+    where
+      go : (c : Bool) → NotAbove (if c then deepCapacity x else shallowCapacity x) (whole 1) (if c then deepMoment x else shallowMoment x)
+      go true = deep-safe
+      go false = shallow-safe
+
+  -- Where 4.2.2 applies, the exact figure's differences cut nothing off at 0.
+  pub forces-ordered : deep x ≡ true → C x ≼ T x
+  forces-ordered d =
+      ≼-same (C x) (same-sym T-same) (same-≼ (tensionForce x // 10) (same-sym C-same) (mul-le-mul-right 10 (deep-tension p (sym deep-is ∙ d))))
+
+  pub exact-square-within : compressionDepth x ≡ true →
+      (T x ⊖ C x) ⊗ (T x ⊖ C x) ⊘ (whole 2 ⊗ K x) ≼ (T x ⊖ C x) ⊗ whole (h₀ x) ⊕ C x ⊗ whole (h₀ x - a′ x)
+  exact-square-within d =
+      ≼-same _ (same-sym moment-same) (same-≼ (steelMoment x // 10) (same-sym square-same)
+      (omega (arith, square-within p d)))

@@ -1,0 +1,5 @@
+pub mod Bounds
+pub mod Tests
+pub mod Capacity
+pub mod Exact
+pub mod Examples

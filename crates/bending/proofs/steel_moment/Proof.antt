@@ -1,0 +1,52 @@
+-- `bending::steel_moment` meets its contract.
+use native.Mathlib.Omega.{arith}
+use borrow.Author.Needs.{needs}
+use Rattle.bending.proofs.Capacity.{steel-most}
+use Rattle.bending.proofs.steel_moment.Statement.{statement}
+use Rattle.bending.proofs.steel_moment.Tie as tie
+
+net-tension-requires : tie.Need-net-tension-requires
+net-tension-requires c κs = search needs
+
+in-millimetres-requires : tie.Need-in-millimetres-requires
+in-millimetres-requires c κs = search needs
+
+mul-result : tie.Need-mul-result
+mul-result c =
+    let s = c .before .before in
+    rw (c .before .net-tension .ensures, c .in-millimetres .ensures) (omega (arith, steel-most (s .pre .0) (s .pre .1)))
+
+compression-force-requires : tie.Need-compression-force-requires
+compression-force-requires c κs = search needs
+
+lever-arm-requires : tie.Need-lever-arm-requires
+lever-arm-requires c κs = search needs
+
+mul-result-2 : tie.Need-mul-result-2
+mul-result-2 c =
+    let s = c .before .before .before .before in
+    rw (c .before .compression-force .ensures, c .lever-arm .ensures) (omega (arith, steel-most (s .pre .0) (s .pre .1)))
+
+add-result : tie.Need-add-result
+add-result c =
+    let s = c .before .before .before in
+    rw (s .net-tension .ensures, c .before .before .in-millimetres .ensures, c .before .compression-force .ensures, c .lever-arm .ensures)
+    (omega (arith, steel-most (s .before .pre .0) (s .before .pre .1)))
+
+returns : tie.Need-returns
+returns c =
+    let s = c .before .before .before in
+    rw (c .lever-arm .ensures, c .before .compression-force .ensures, c .before .before .in-millimetres .ensures, s .net-tension .ensures)
+
+pub steel-moment-spec : {M : Type 1} → statement M
+steel-moment-spec =
+    tie.close
+    (tie.spec
+    net-tension-requires
+    in-millimetres-requires
+    mul-result
+    compression-force-requires
+    lever-arm-requires
+    mul-result-2
+    add-result
+    returns)

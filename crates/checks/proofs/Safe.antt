@@ -1,0 +1,59 @@
+-- Demand 3 for every accepted member: its outcome is safe, and so is its line.
+use Prim.Native.Nat.{ℕ}
+use mathlib.Core.Path.{_≡_, refl, ap, _∙_}
+use mathlib.Core.List.{List}
+use Rattle.outcome.specs.declared.Outcome.{Outcome}
+use Rattle.standard.specs.Concrete.{concreteOf}
+use Rattle.standard.specs.Steel.{steelOf}
+use Rattle.member.specs.Member.{Member, beam, column, mesh, Beam, Column, Mesh}
+use borrow.Author.Tests.{ne-eqb}
+use Rattle.member.specs.Accepted.{AcceptedMember, AcceptedBeam, AcceptedColumn, AcceptedMesh}
+use Rattle.built.specs.Slots.{memberAt, beamAt, columnAt, meshAt}
+use Rattle.mesh.specs.Steps.{meshOutcome}
+use Rattle.column.specs.Steps.{columnOutcome}
+use Rattle.beam.specs.Checks.{beamOutcome}
+use Rattle.mesh.proofs.Safe.{mesh-safe}
+use Rattle.column.proofs.Safe.{column-safe}
+use Rattle.beam.proofs.Safe.{beam-safe}
+use Rattle.line.specs.Said.{saidBy}
+use Rattle.line.proofs.Said.{saidOf}
+use Rattle.checks.specs.Outcome.{markOf, outcomeOf}
+use Rattle.checks.specs.Claim.{SafeMember, SafeLine}
+
+pub member-safe : (m : Member) → AcceptedMember m → SafeMember m (outcomeOf m)
+member-safe (beam mark x) a = beam-safe x (a .1)
+member-safe (column mark x) a = column-safe x (a .1)
+member-safe (mesh mark x) a = mesh-safe x (a .1)
+
+-- a line that says the member's mark and outcome
+pub line-safe : (m : Member) (line : List ℕ) → AcceptedMember m → saidBy line ≡ saidOf (markOf m) (outcomeOf m) → SafeLine m line
+line-safe m line a e = rw e (record { check = outcomeOf m .check; word = refl; mark = refl; safe = member-safe m a })
+
+-- ---- By kind.
+
+module _ (mark : ℕ) (v : List ℕ) where
+  pub as-beam : {k : ℕ} → k ≡ 1 → AcceptedMember (memberAt mark k v) → AcceptedBeam (beamAt v)
+  unfolding memberAt
+  as-beam p a = (rw p at a) .1
+
+  pub as-column : {k : ℕ} → k ≡ 2 → AcceptedMember (memberAt mark k v) → AcceptedColumn (columnAt v)
+  unfolding memberAt
+  as-column p a = (rw p at a) .1
+
+  pub as-mesh : {k : ℕ} → (k ≡ 1 → ⊥) → (k ≡ 2 → ⊥) → AcceptedMember (memberAt mark k v) → AcceptedMesh (meshAt v)
+  unfolding memberAt
+  as-mesh {k} p q a = (rw (ne-eqb k 1 p, ne-eqb k 2 q) at a) .1
+
+  module _ {k : ℕ} {o : Outcome} where
+    pub beam-outcome : {x : Beam} → k ≡ 1 → x ≡ beamAt v → o ≡ beamOutcome x → o ≡ outcomeOf (memberAt mark k v)
+    unfolding memberAt
+    beam-outcome p q e = rw p (e ∙ ap beamOutcome q)
+
+    pub column-outcome : {x : Column} → k ≡ 2 → x ≡ columnAt v → o ≡ columnOutcome x (concreteOf (x .concrete)) (steelOf (x .steel)) →
+        o ≡ outcomeOf (memberAt mark k v)
+    unfolding memberAt
+    column-outcome p q e = rw p (e ∙ ap (λ (x : Column). columnOutcome x (concreteOf (x .concrete)) (steelOf (x .steel))) q)
+
+    pub mesh-outcome : {x : Mesh} → (k ≡ 1 → ⊥) → (k ≡ 2 → ⊥) → x ≡ meshAt v → o ≡ meshOutcome x → o ≡ outcomeOf (memberAt mark k v)
+    unfolding memberAt
+    mesh-outcome p r q e = rw (ne-eqb k 1 p, ne-eqb k 2 r) (e ∙ ap meshOutcome q)

@@ -1,0 +1,57 @@
+use mathlib.Core.Path.{_≡_}
+use Rattle.member.specs.Accepted.{AcceptedBeam, AcceptedColumn, AcceptedMesh}
+use Rattle.checks.proofs.Safe.{as-beam, as-column, as-mesh, beam-outcome, column-outcome, mesh-outcome}
+use borrow.Author.Needs.{needs}
+use Rattle.checks.proofs.check_member.Statement.{statement}
+use Rattle.checks.proofs.check_member.Tie as tie
+use Rattle.checks.proofs.check_member.Reads as reads
+use Rattle.checks.proofs.check_member.Lts as lts
+use Rattle.beam.proofs.check_beam.Reads as check-beam-reads
+use Rattle.built.proofs.beam_of.Reads as beam-of-reads
+use Rattle.built.proofs.column_of.Reads as column-of-reads
+use Rattle.built.proofs.mesh_of.Reads as mesh-of-reads
+use Rattle.column.proofs.check_column.Reads as check-column-reads
+use Rattle.mesh.proofs.check_mesh.Reads as check-mesh-reads
+
+beam-of-requires : tie.Need-beam-of-requires
+beam-of-requires c κs = search needs
+
+check-beam-requires : tie.Need-check-beam-requires
+check-beam-requires c κs = rw (c .beam-of .ensures) (as-beam _ _ (c .before .match .keys1) (c .before .before .before .pre))
+
+column-of-requires : tie.Need-column-of-requires
+column-of-requires c κs = search needs
+
+check-column-requires : tie.Need-check-column-requires
+check-column-requires c κs = rw (c .column-of .ensures) (as-column _ _ (c .before .match .keys2) (c .before .before .before .pre))
+
+mesh-of-requires : tie.Need-mesh-of-requires
+mesh-of-requires c κs = search needs
+
+check-mesh-requires : tie.Need-check-mesh-requires
+check-mesh-requires c κs =
+    rw (c .mesh-of .ensures) (as-mesh _ _ (c .before .match .rest .0 .1) (c .before .match .rest .1) (c .before .before .before .pre))
+
+returns : tie.Need-returns
+returns c = beam-outcome _ _ (c .before .before .match .keys1) (c .before .beam-of .ensures) (c .check-beam .ensures)
+
+returns-2 : tie.Need-returns-2
+returns-2 c = column-outcome _ _ (c .before .before .match .keys2) (c .before .column-of .ensures) (c .check-column .ensures)
+
+returns-3 : tie.Need-returns-3
+returns-3 c =
+    mesh-outcome _ _ (c .before .before .match .rest .0 .1) (c .before .before .match .rest .1) (c .before .mesh-of .ensures) (c .check-mesh .ensures)
+
+pub check-member-spec : {M : Type 1} → statement M
+check-member-spec =
+    tie.close
+    (tie.spec
+    beam-of-requires
+    check-beam-requires
+    column-of-requires
+    check-column-requires
+    mesh-of-requires
+    check-mesh-requires
+    returns
+    returns-2
+    returns-3)

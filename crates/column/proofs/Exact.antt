@@ -1,0 +1,95 @@
+-- The clause's axial capacity is that of the steps before it is rounded, for any usable concrete and steel.
+use Prim.Native.Nat.{ℕ, _+_, _-_, _*_, _<_}
+use mathlib.Core.Path.{_≡_}
+use mathlib.Core.Bool.{Bool, true, false}
+use native.Mathlib.Omega.{arith}
+use lib.Dec.{leb, ltb}
+use Rattle.quantity.specs.declared.Stress.{Stress}
+use Rattle.quantity.specs.Choice.{if_then_else_}
+use Rattle.quantity.specs.Fraction.{_//_, whole, _⊕_, _⊖_, _⊗_, _⊘_}
+use Rattle.quantity.specs.Unit.{inUnits, inTenths, exactStress}
+use Rattle.quantity.proofs.Rounding.{expand}
+use Rattle.quantity.proofs.Fraction.{level, Same, same-refl, same-trans, same-sum, same-difference, same-product}
+use Rattle.standard.specs.declared.Concrete.{Concrete}
+use Rattle.standard.specs.declared.Steel.{Steel}
+use Rattle.standard.specs.Bounds.{UsableConcrete, UsableSteel}
+use Rattle.standard.specs.Slenderness.{point}
+use Rattle.member.specs.Member.{Column}
+use Rattle.column.specs.Steps.{grossArea, steelArea, interval, between, stability, concreteArea, squashLoad}
+use Rattle.column.specs.Exact.{exactBetween, exactStability, exactSteelArea, exactConcreteArea, exactAxial}
+use Rattle.column.proofs.Stability.{interval-found}
+
+-- ---- φ.
+
+offset-same : (l b k : ℕ) → 0 < b → Same ((l // b ⊖ whole k) ⊘ whole 2) ((l - k * b) // (2 * b))
+unfolding _⊖_ _⊘_
+offset-same l b k p = record { pos = omega arith; pos′ = omega arith; same = simp level (omega arith) }
+
+drop-same : (q y b : ℕ) → 0 < b → Same (q // 100 ⊗ y // (2 * b)) ((q * y) // (200 * b))
+unfolding _⊗_
+drop-same q y b p = record { pos = omega arith; pos′ = omega arith; same = simp expand (omega arith) }
+
+rest-same : (p z b : ℕ) → 0 < b → Same (p // 100 ⊖ z // (200 * b)) ((p * (2 * b) - z) // (200 * b))
+unfolding _⊖_
+rest-same p z b u = record { pos = omega arith; pos′ = omega arith; same = simp level (omega arith) }
+
+between-same : (i l b : ℕ) → 0 < b → Same (exactBetween i l b) (between i l b // (200 * b))
+unfolding exactBetween between
+between-same i l b p =
+    let q = point i - point (i + 1) in
+    let y = l - (8 + 2 * i) * b in
+    let drop = same-trans (same-product (same-refl (q // 100) (omega arith)) (offset-same l b (8 + 2 * i) p)) (drop-same q y b p) in
+    same-trans (same-difference (same-refl (point i // 100) (omega arith)) drop) (rest-same (point i) (q * y) b p)
+
+stability-same : (l b : ℕ) → 0 < b → Same (exactStability l b) (stability l b // (200 * b))
+unfolding exactStability stability
+stability-same l b p = rw (interval-found l b p) (go (leb l (8 * b)))
+  where
+    go : (t : Bool) → Same (if t then whole 1 else exactBetween (interval l b) l b) ((if t then 200 * b else between (interval l b) l b) // (200 * b))
+    go true = record { pos = omega arith; pos′ = omega arith; same = omega arith }
+    go false = between-same (interval l b) l b p
+
+-- ---- The squash load.
+
+tenths-same : (s : Stress) → s .0 ≡ 10 * inTenths s → Same (exactStress s) (inTenths s // 10)
+unfolding exactStress
+tenths-same s e = record { pos = omega arith; pos′ = omega arith; same = omega arith }
+
+units-same : (s : Stress) → s .0 ≡ 100 * inUnits s → Same (exactStress s) (whole (inUnits s))
+unfolding exactStress
+units-same s e = record { pos = omega arith; pos′ = omega arith; same = omega arith }
+
+concrete-same : (x : Column) → Same (exactConcreteArea x) (concreteArea (grossArea x) (steelArea x) // 10)
+unfolding exactConcreteArea exactSteelArea concreteArea _⊖_
+concrete-same x = go (ltb (3 * grossArea x) (10 * steelArea x))
+  where
+    go : (t : Bool) → Same (if t then whole (grossArea x) ⊖ exactSteelArea x else whole (grossArea x)) ((if t then 10 * grossArea x - steelArea x else 10 * grossArea x) // 10)
+    go true = record { pos = omega arith; pos′ = omega arith; same = omega arith }
+    go false = record { pos = omega arith; pos′ = omega arith; same = omega arith }
+
+parts-same : (fc fy s g : ℕ) → Same (fc // 10 ⊗ g // 10 ⊕ whole fy ⊗ s // 10) ((fc * g + 10 * fy * s) // 100)
+unfolding _⊕_ _⊗_
+parts-same fc fy s g = record { pos = omega arith; pos′ = omega arith; same = simp expand (omega arith) }
+
+squash-same : (x : Column) (concrete : Concrete) (steel : Steel) → UsableConcrete concrete → UsableSteel steel →
+    Same (exactStress (concrete .fc) ⊗ exactConcreteArea x ⊕ exactStress (steel .axial) ⊗ exactSteelArea x) (squashLoad x concrete steel // 100)
+unfolding squashLoad exactSteelArea
+squash-same x concrete steel c s =
+    same-trans
+    (same-sum (same-product (tenths-same (concrete .fc) (c .fc-exact)) (concrete-same x))
+    (same-product (units-same (steel .axial) (s .axial .exact)) (same-refl (steelArea x // 10) (omega arith))))
+    (parts-same (inTenths (concrete .fc)) (inUnits (steel .axial)) (steelArea x) (concreteArea (grossArea x) (steelArea x)))
+
+-- ---- The capacity.
+
+product-same : (f n b : ℕ) → 0 < b → Same (9 // 10 ⊗ f // (200 * b) ⊗ n // 100) ((9 * f * n) // (200000 * b))
+unfolding _⊗_
+product-same f n b p = record { pos = omega arith; pos′ = omega arith; same = simp expand (omega arith) }
+
+pub axial-same : (x : Column) (concrete : Concrete) (steel : Steel) → 0 < x .b → UsableConcrete concrete → UsableSteel steel →
+    Same (exactAxial x concrete steel) ((9 * stability (x .l₀) (x .b) * squashLoad x concrete steel) // (200000 * x .b))
+unfolding exactAxial
+axial-same x concrete steel p c s =
+    same-trans
+    (same-product (same-product (same-refl (9 // 10) (omega arith)) (stability-same (x .l₀) (x .b) p)) (squash-same x concrete steel c s))
+    (product-same (stability (x .l₀) (x .b)) (squashLoad x concrete steel) (x .b) p)

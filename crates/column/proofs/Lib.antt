@@ -1,0 +1,5 @@
+pub mod Stability
+pub mod Bounds
+pub mod Exact
+pub mod Safe
+pub mod Examples

@@ -1,0 +1,83 @@
+-- `column::between_points` meets its contract.
+use native.Mathlib.Omega.{arith}
+use Rattle.column.specs.Steps.{between}
+use Rattle.column.proofs.Stability.{Inside, inside, Falling, falling}
+use borrow.Author.Needs.{needs}
+use Rattle.column.proofs.between_points.Statement.{statement}
+use Rattle.column.proofs.between_points.Tie as tie
+
+on : (c : tie.Start) → Inside (c .args .span) (c .args .b) (c .args .i)
+on c = let p = c .pre in inside (c .args .span) (c .args .b) (c .args .i) (p .4) (p .0) (p .2) (p .3)
+
+here : (c : tie.After-point-at2) →
+    let a = c .before .before .args in
+    Falling (c .before .point-at .result) (c .point-at2 .result) (a .span) (a .b) (a .i)
+here c =
+    let a = c .before .before .args in
+    falling _ _ (a .span) (a .b) (a .i) (c .before .point-at .ensures) (c .point-at2 .ensures) (on (c .before .before))
+
+point-at-requires : tie.Need-point-at-requires
+point-at-requires c κs = search needs
+
+cast-p : tie.Need-cast-p
+cast-p c = search needs
+
+add-point-at : tie.Need-add-point-at
+add-point-at c = omega (arith, on (c .before) .last)
+
+point-at-requires-2 : tie.Need-point-at-requires-2
+point-at-requires-2 c κs = search needs
+
+cast-q : tie.Need-cast-q
+cast-q c = search needs
+
+mul-start : tie.Need-mul-start
+mul-start c = search needs
+
+add-start : tie.Need-add-start
+add-start c = search needs
+
+mul-start-2 : tie.Need-mul-start-2
+mul-start-2 c = omega (arith, on (c .before .before) .low)
+
+mul-result : tie.Need-mul-result
+mul-result c = search needs
+
+mul-result-2 : tie.Need-mul-result-2
+mul-result-2 c = omega (arith, here c)
+
+sub-result : tie.Need-sub-result
+sub-result c = here c .falls
+
+sub-result-2 : tie.Need-sub-result-2
+sub-result-2 c = on (c .before .before) .low
+
+mul-result-3 : tie.Need-mul-result-3
+mul-result-3 c = omega (arith, here c)
+
+sub-result-3 : tie.Need-sub-result-3
+sub-result-3 c = here c .off
+
+returns : tie.Need-returns
+unfolding between
+returns c = (cc, omega (arith, here c))
+
+pub between-points-spec : {M : Type 1} → statement M
+between-points-spec =
+    tie.close
+    (tie.spec
+    point-at-requires
+    cast-p
+    add-point-at
+    point-at-requires-2
+    cast-q
+    mul-start
+    add-start
+    mul-start-2
+    mul-result
+    mul-result-2
+    sub-result
+    sub-result-2
+    mul-result-3
+    sub-result-3
+    returns)

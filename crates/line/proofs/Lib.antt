@@ -1,0 +1,5 @@
+pub mod Text
+pub mod Names
+pub mod Said
+pub mod Length
+mod Examples

@@ -1,0 +1,104 @@
+-- Reading back: what a line's bytes say is what the line was made from.
+use Prim.Native.Nat.{ℕ, zero, suc, _<_}
+use mathlib.Core.Path.{_≡_, refl, ap, _∙_}
+use mathlib.Core.List.{List, [], _∷_, map}
+use native.Mathlib.Omega.{arith}
+use lib.ListN.{length, getD}
+use Rattle.text.specs.Text.{every, isDecimal, valueOf, joinedBy, textOf, lineOf, wordOf}
+use Rattle.text.proofs.All.{All, all-none, all-and, all-map, Graphic, graphic}
+use Rattle.text.proofs.Decimal.{decimal-is, decimal-value, decimal-graphic}
+use Rattle.text.proofs.Split.{read-word, read-line, read-back}
+use Rattle.outcome.specs.declared.Figure.{Figure}
+use Rattle.outcome.specs.declared.Figure.the-variants.{Reached, Unreached}
+use Rattle.outcome.specs.declared.Outcome.{Outcome}
+use Rattle.outcome.specs.Outcome.{nameOf}
+use Rattle.line.specs.Line.{figureWord, lineWords, headWords, refusalWords, reportWords, lineText}
+use Rattle.line.specs.Said.{Said, figureSaid, saidBy}
+use Rattle.line.proofs.Names.{name-graphic}
+
+-- ---- No word has a blank or a newline
+
+figure-graphic : (f : Figure) → All Graphic (figureWord f)
+unfolding every
+figure-graphic (Reached v) = decimal-graphic v
+figure-graphic Unreached = graphic (45 ∷ []) refl
+
+pub line-graphic : (mark : ℕ) (o : Outcome) → All (All Graphic) (lineWords mark o)
+line-graphic mark o =
+    all-and (decimal-graphic mark)
+    (all-and (name-graphic (o .check))
+    (all-and (figure-graphic (o .first))
+    (all-and (figure-graphic (o .second))
+    (all-and (figure-graphic (o .third)) (all-and (figure-graphic (o .fourth)) all-none)))))
+
+pub head-graphic : (n : ℕ) → All (All Graphic) (headWords n)
+unfolding every
+head-graphic n = all-and (graphic _ refl) (all-and (decimal-graphic n) all-none)
+
+pub refusal-graphic : (question member : ℕ) → All (All Graphic) (refusalWords question member)
+unfolding every
+refusal-graphic question member =
+    all-and (graphic _ refl) (all-and (decimal-graphic question) (all-and (graphic _ refl) (all-and (decimal-graphic member) all-none)))
+
+-- ---- One line
+
+pub figure-said : (f : Figure) → figureSaid (figureWord f) ≡ f
+unfolding figureSaid isDecimal every
+figure-said (Reached v) = rw (decimal-is v, decimal-value v)
+figure-said Unreached = refl
+
+-- what the line of a member says
+abbrev pub saidOf : ℕ → Outcome → Said
+saidOf mark o = record {
+  mark = mark;
+  word = nameOf (o .check);
+  first = o .first;
+  second = o .second;
+  third = o .third;
+  fourth = o .fourth;
+}
+
+pub said-line : (mark : ℕ) (o : Outcome) → saidBy (joinedBy 32 (lineWords mark o)) ≡ saidOf mark o
+unfolding saidBy
+said-line mark o =
+    let a = line-graphic mark o in
+    rw (
+      read-word 0 a,
+      read-word 1 a,
+      read-word 2 a,
+      read-word 3 a,
+      read-word 4 a,
+      read-word 5 a,
+      decimal-value mark,
+      figure-said (o .first),
+      figure-said (o .second),
+      figure-said (o .third),
+      figure-said (o .fourth),
+    )
+
+-- from the text of the one line
+pub said-alone : (mark : ℕ) (o : Outcome) → saidBy (lineOf 0 (lineText (lineWords mark o))) ≡ saidOf mark o
+said-alone mark o = ap saidBy (read-line 0 (all-and (line-graphic mark o) all-none)) ∙ said-line mark o
+
+-- ---- A report
+
+getD-map-in : {A B : Type 0} (f : A → B) (xs : List A) (i : ℕ) (a : A) (b : B) → i < length xs → getD (map f xs) i b ≡ f (getD xs i a)
+getD-map-in f [] i a b h = absurd (omega arith)
+getD-map-in f (x ∷ xs) zero a b h = refl
+getD-map-in f (x ∷ xs) (suc i) a b h = getD-map-in f xs i a b (omega arith)
+
+module _ {A : Type 0} (markOf : A → ℕ) (outcomeOf : A → Outcome) (members : List A) where
+  pub report-graphic : All (All (All Graphic)) (reportWords markOf outcomeOf members)
+  report-graphic =
+      all-and (head-graphic (length members))
+      (all-map (λ m. lineWords (markOf m) (outcomeOf m)) (λ m. line-graphic (markOf m) (outcomeOf m)) members)
+
+  -- the first line says how many members there are
+  pub head-said : valueOf (wordOf 1 (lineOf 0 (textOf (reportWords markOf outcomeOf members)))) ≡ length members
+  head-said = ap valueOf (read-back 0 1 report-graphic) ∙ decimal-value (length members)
+
+  -- the line after i others says what member i came to
+  pub member-said : (i : ℕ) (d : A) → i < length members → saidBy (lineOf (suc i) (textOf (reportWords markOf outcomeOf members))) ≡ saidOf (markOf (getD members i d)) (outcomeOf (getD members i d))
+  member-said i d h =
+      ap saidBy (read-line (suc i) report-graphic ∙ ap (joinedBy 32) (getD-map-in (λ m. lineWords (markOf m) (outcomeOf m)) members i d [] h))
+      ∙ said-line (markOf (getD members i d)) (outcomeOf (getD members i d))

@@ -1,0 +1,38 @@
+-- Document 01's mesh 3, printed and with a lap given that is 1 mm shorter than needed; the steps at other fields.
+use Prim.Native.Nat.{ℕ}
+use mathlib.Core.Path.{_≡_, refl}
+use Rattle.quantity.specs.Rounding.{up}
+use Rattle.standard.specs.Mesh.{multiple}
+use Rattle.member.specs.Member.{Mesh}
+use Rattle.outcome.specs.Outcome.{outcome}
+use Rattle.outcome.specs.declared.Check.the-variants.{Passed, Anchorage, Lap}
+use Rattle.outcome.specs.declared.Figure.the-variants.{Reached, Unreached}
+use Rattle.mesh.specs.Steps.{basicLength, anchorageLength, tensionLap, requiredLap, lapLength, lapOutcome, meshOutcome}
+
+mesh₃ : ℕ → ℕ → Mesh
+mesh₃ anchorage lap =
+    record {
+      family = 1;
+      concrete = 30;
+      d = 10;
+      cross = 1;
+      paired = 0;
+      apart = 0;
+      seismic = 3;
+      lapping = 1;
+      compression = 0;
+      anchorage = anchorage;
+      lap = lap;
+    }
+
+passes : meshOutcome (mesh₃ 270 342) ≡ outcome Passed (Reached 263) (Reached 342) Unreached Unreached
+unfolding mesh₃ meshOutcome lapOutcome anchorageLength lapLength requiredLap tensionLap basicLength multiple up
+passes = refl
+
+lap-fails : meshOutcome (mesh₃ 270 341) ≡ outcome Lap (Reached 263) (Reached 342) Unreached Unreached
+unfolding mesh₃ meshOutcome lapOutcome anchorageLength lapLength requiredLap tensionLap basicLength multiple up
+lap-fails = refl
+
+anchorage-fails : meshOutcome (mesh₃ 262 341) ≡ outcome Anchorage (Reached 263) Unreached Unreached Unreached
+unfolding mesh₃ meshOutcome anchorageLength basicLength multiple up
+anchorage-fails = refl

@@ -1,0 +1,4 @@
+pub mod Bounds
+pub mod Exact
+pub mod Safe
+pub mod Examples

@@ -1,0 +1,53 @@
+-- A section put together from its parts.
+use Prim.Native.Nat.{ℕ}
+use mathlib.Core.Path.{_≡_, refl, ap}
+use lib.Dec.{ltb}
+use Rattle.quantity.specs.declared.Length.{Length}
+use Rattle.quantity.specs.declared.Stress.{Stress}
+use Rattle.quantity.specs.Unit.{millimetres}
+use Rattle.standard.specs.declared.Concrete.{Concrete}
+use Rattle.standard.specs.declared.Steel.{Steel}
+use Rattle.standard.specs.Concrete.{concreteOf}
+use Rattle.standard.specs.Steel.{steelOf, fyvOf}
+use Rattle.member.specs.declared.Beam.{Beam}
+use Rattle.member.specs.declared.Totals.{Totals}
+use Rattle.member.specs.Member.{beamOf, h₀}
+use Rattle.member.specs.Sums.{TotalsOf, area}
+use Rattle.section.specs.declared.Section.{Section}
+use Rattle.section.specs.Section.{sectionOf}
+
+module _ (x : Beam) (depth : Length) (flange compression links : ℕ) (t : Totals) (m : Concrete) (s : Steel) (f : Stress) where
+  abbrev put : Section
+  put =
+      record {
+        b = x .b;
+        h = x .h;
+        depth = depth;
+        ac = x .ac;
+        flanged = ltb (x .b .0) (x .bf .0);
+        flange = flange;
+        tension = t .area;
+        compression = compression;
+        links = links;
+        squares = t .squares;
+        diameters = t .diameters;
+        s = x .s;
+        c = x .c;
+        span = x .span;
+        m = x .m;
+        mq = x .mq;
+        v = x .v;
+        environment = x .environment;
+        strict = x .strict;
+        concrete = m;
+        steel = s;
+        fyv = f;
+      }
+
+  pub made : depth .0 ≡ h₀ (beamOf x) → flange ≡ sectionOf (beamOf x) .flange → TotalsOf (beamOf x .tension) t →
+      compression ≡ area (beamOf x .compression) → links ≡ sectionOf (beamOf x) .links →
+      m ≡ concreteOf (x .concrete) → s ≡ steelOf (x .steel) → f ≡ fyvOf (x .linkSteel) → put ≡ sectionOf (beamOf x)
+  unfolding sectionOf
+  made d e totals g k p q r =
+      let d′ : depth ≡ millimetres (h₀ (beamOf x)) = ap millimetres d in
+      rw (d′, e, totals .S, totals .E, totals .D, g, k, p, q, r) refl

@@ -1,0 +1,34 @@
+use native.Mathlib.Omega.{arith}
+use Rattle.quantity.proofs.Product.{product-most}
+use Rattle.standard.proofs.Bars.{area-most}
+use Rattle.section.specs.Section.{sectionOf}
+use borrow.Author.Needs.{needs}
+use Rattle.section.proofs.link_area.Statement.{statement}
+use Rattle.section.proofs.link_area.Tie as tie
+use Rattle.section.proofs.link_area.Reads as reads
+use Rattle.section.proofs.link_area.Lts as lts
+use Rattle.section.proofs.wide.Reads as wide-reads
+use Rattle.standard.proofs.area_of.Reads as area-of-reads
+
+wide-requires : tie.Need-wide-requires
+wide-requires c κs = search needs
+
+area-of-requires : tie.Need-area-of-requires
+area-of-requires c κs = search needs
+
+wide-requires-2 : tie.Need-wide-requires-2
+wide-requires-2 c κs = search needs
+
+mul-result : tie.Need-mul-result
+mul-result c =
+    let legs = c .before .before .wide .result in
+    let one = c .wide2 .result in
+    omega (arith, product-most legs one 4294967295 19635 (omega (arith, area-most (c .before .before .before .args .x .link))))
+
+returns : tie.Need-returns
+unfolding sectionOf
+returns c = cc
+
+pub link-area-spec : {M : Type 1} → statement M
+link-area-spec =
+    tie.close (tie.spec wide-requires area-of-requires wide-requires-2 mul-result returns)

@@ -1,0 +1,4 @@
+pub mod Bounds
+pub mod Tests
+pub mod Exact
+pub mod Examples

@@ -1,0 +1,79 @@
+// Shear and links of beams: shear capacity, spacing of links, least links.
+ghost use mathlib.Core.Path.{_≡_};
+ghost use Rattle.quantity.specs.Unit.{newtons};
+ghost use Rattle.section.specs.Bounded.{Bounded};
+ghost use Rattle.shear.specs.Steps.{concretePart, concreteShear, linkShear, shearCapacity, shearAbove, linkSpacing, linksSuffice, leastLinks};
+use quantity::Force;
+use quantity::div_down;
+use section::Section;
+use standard::spacing_limit;
+
+// 7·ft·b·h0, in thousandths of N.
+fn concrete_part(x: Section) -> u64
+    requires { ⌜ Bounded x ⌝ }
+    ensures { λ r. ⌜ r ≡ concretePart x ⌝ }
+{
+    7 * x.concrete.ft.in_hundredths() * x.b.in_millimetres() * x.depth.in_millimetres()
+}
+
+// What the concrete carries of the shear.
+fn concrete_shear(x: Section) -> Force
+    requires { ⌜ Bounded x ⌝ }
+    ensures { λ r. ⌜ r ≡ newtons (concreteShear x) ⌝ }
+{
+    Force::of_newtons(div_down(concrete_part(x), 1000))
+}
+
+// What the links carry of the shear.
+fn link_shear(x: Section) -> Force
+    requires { ⌜ Bounded x ⌝ }
+    ensures { λ r. ⌜ r ≡ newtons (linkShear x) ⌝ }
+{
+    let force = x.fyv.in_units() * x.links;
+    Force::of_newtons(div_down(force * x.depth.in_millimetres(), 10 * x.s.in_millimetres()))
+}
+
+// 4.3.3.
+pub fn shear_capacity(x: Section) -> Force
+    requires { ⌜ Bounded x ⌝ }
+    ensures { λ r. ⌜ r ≡ newtons (shearCapacity x) ⌝ }
+{
+    concrete_shear(x).plus(link_shear(x))
+}
+
+// Whether the shear is above 0.7·ft·b·h0, the first case of table 5.5.6.
+pub fn shear_above(x: Section) -> bool
+    requires { ⌜ Bounded x ⌝ }
+    ensures { λ r. ⌜ r ≡ shearAbove x ⌝ }
+{
+    concrete_part(x) < 1000 * x.v.in_newtons()
+}
+
+// 5.5.6s.
+pub fn link_spacing(x: Section) -> bool
+    requires { ⌜ Bounded x ⌝ }
+    ensures { λ r. ⌜ r ≡ linkSpacing x ⌝ }
+{
+    x.s.in_millimetres() <= spacing_limit(x.h, shear_above(x)).in_millimetres()
+}
+
+// 1000·L·fyv ≥ 24·ft·b·s.
+fn links_suffice(x: Section) -> bool
+    requires { ⌜ Bounded x ⌝ }
+    ensures { λ r. ⌜ r ≡ linksSuffice x ⌝ }
+{
+    let concrete = 24 * x.concrete.ft.in_hundredths() * x.b.in_millimetres();
+    concrete * x.s.in_millimetres() <= 1000 * x.links * x.fyv.in_units()
+}
+
+// 5.5.6r.
+pub fn least_links(x: Section) -> bool
+    requires { ⌜ Bounded x ⌝ }
+    ensures { λ r. ⌜ r ≡ leastLinks x ⌝ }
+{
+    if shear_above(x) {
+        links_suffice(x)
+    } else {
+        true
+    }
+}
