@@ -2,13 +2,11 @@
 use Prim.Native.Nat.{ℕ, _-_, _*_, _≤_}
 use native.Mathlib.Nat.{mul-le-mul, mul-pos}
 use native.Mathlib.Omega.{arith}
+use Rattle.quantity.proofs.Product.{product-most}
 use Rattle.section.specs.declared.Section.{Section}
 use Rattle.section.specs.Section.{h₀, a′, G, S, ft, fy, e}
 use Rattle.section.specs.Bounded.{Bounded}
 use Rattle.bending.specs.Steps.{tensionForce, compressionForce, k}
-
-pub times-le : (a b m n : ℕ) → (a ≤ m) × (b ≤ n) → a * b ≤ m * n
-times-le a b m n p = mul-le-mul (p .0) (p .1)
 
 pub record Sizes (x : Section) : Type 0 where
   -- 6.3.1
@@ -31,14 +29,14 @@ sizes {x} p =
     let crushing = mul-le-mul (p .concrete .fc-most) (p .b-most) in
     let depth = mul-le-mul (p .steel .depth) (p .h₀-most) in
     record {
-      concrete = times-le (45 * ft x) (G x) 18000 5000000 (omega (arith, p .concrete));
-      steel = times-le (1000 * S x) (fy x) 800000000 600 (omega (arith, p .steel .fy));
+      concrete = product-most (45 * ft x) (G x) 18000 5000000 (omega (arith, p .concrete));
+      steel = product-most (1000 * S x) (fy x) 800000000 600 (omega (arith, p .steel .fy));
       tension = tension;
       compression = mul-le-mul (p .steel .fyc .most) (p .S′-most);
       crushing-least = mul-pos (p .concrete .fc-least) (omega arith);
       crushing-most = crushing;
       depth = depth;
       limit = mul-le-mul depth crushing;
-      reach = times-le (2 * a′ x) (k x) 4000 400000 (omega arith);
-      shallow = times-le (tensionForce x) (h₀ x - a′ x) 480000000 2000 (omega arith);
+      reach = product-most (2 * a′ x) (k x) 4000 400000 (omega arith);
+      shallow = product-most (tensionForce x) (h₀ x - a′ x) 480000000 2000 (omega arith);
     }

@@ -4,6 +4,7 @@ use mathlib.Core.Path.{_≡_}
 use mathlib.Core.Bool.{true}
 use native.Mathlib.Nat.{mul-assoc, mul-le-mul-left, mul-le-mul-right}
 use native.Mathlib.Omega.{arith}
+use Rattle.quantity.proofs.Product.{product-most}
 use Rattle.quantity.specs.Rounding.{up, down}
 use Rattle.quantity.proofs.Choice.{if-case}
 use Rattle.quantity.proofs.Rounding.{expand, up-le, down-le, down-minus-up}
@@ -11,7 +12,7 @@ use Rattle.section.specs.declared.Section.{Section}
 use Rattle.section.specs.Section.{h₀, a′, e}
 use Rattle.section.specs.Bounded.{Bounded}
 use Rattle.bending.specs.Steps.{tensionForce, compressionForce, t, k, steelMoment, compressionDepth, isDeep, deepCapacity, shallowCapacity, bendingCapacity}
-use Rattle.bending.proofs.Bounds.{times-le, sizes}
+use Rattle.bending.proofs.Bounds.{sizes}
 use Rattle.bending.proofs.Tests.{depth-pass, deep-tension}
 
 -- On plain numbers: p and q are the forces of the tension and compression steel, g = h0 - a'.
@@ -24,7 +25,7 @@ square-core t k h y a = simp expand (omega (arith, simp expand at (mul-le-mul-le
 steel-core : (p q h g : ℕ) → q ≤ p → g ≤ h → p ≤ 480000000 → h ≤ 2000 → (p - q) * h + q * g ≤ 960000000000
 steel-core p q h g a b u v =
     let t = p - q in
-    let f : (t + q) * h ≤ 480000000 * 2000 = times-le (t + q) h 480000000 2000 (omega arith) in
+    let f : (t + q) * h ≤ 480000000 * 2000 = product-most (t + q) h 480000000 2000 (omega arith) in
     simp expand (omega (arith, simp expand at f, mul-le-mul-left q b))
 
 module _ {x : Section} (p : Bounded x) (d : compressionDepth x ≡ true) where

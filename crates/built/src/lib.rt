@@ -25,6 +25,7 @@ use member::column_relation;
 use member::mesh_relation;
 use quantity::Force;
 use quantity::Length;
+use quantity::wide;
 use question::Question;
 
 // A member that a caller builds.
@@ -38,12 +39,6 @@ pub enum Verdict {
     Accepted,
     // the first question that is answered no
     Refused(Question),
-}
-
-fn wide(x: u32) -> u64
-    ensures { λ r. ⌜ r ≡ x ⌝ }
-{
-    x as u64
 }
 
 fn index(x: u32) -> usize

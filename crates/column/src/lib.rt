@@ -1,6 +1,6 @@
 // Columns: the checks in their order, up to the first that fails.
 ghost use mathlib.Core.Path.{_≡_};
-ghost use mathlib.Core.Bool.{true, _&&_};
+ghost use mathlib.Core.Bool.{true};
 ghost use Prim.Native.Nat.{_*_, _≤_, _<_};
 ghost use Rattle.standard.specs.Concrete.{concreteOf};
 ghost use Rattle.standard.specs.Steel.{steelOf};
@@ -17,6 +17,7 @@ use outcome::Check;
 use outcome::Figure;
 use outcome::Outcome;
 use quantity::Force;
+use quantity::both;
 use quantity::div_down;
 use quantity::smaller;
 use standard::Concrete;
@@ -24,12 +25,6 @@ use standard::Steel;
 use standard::concrete_of;
 use standard::point_at;
 use standard::steel_of;
-
-fn both(a: bool, b: bool) -> bool
-    ensures { λ r. ⌜ r ≡ (a && b) ⌝ }
-{
-    if a { b } else { false }
-}
 
 // S, in tenths of mm².
 fn bars_area(x: Column) -> u64

@@ -1,11 +1,13 @@
 // The fields of each kind of member in the order of a schedule, each with its domain, and question 7.
 ghost use mathlib.Core.Path.{_≡_};
-ghost use mathlib.Core.Bool.{true, _&&_, _||_};
+ghost use mathlib.Core.Bool.{true};
 ghost use Prim.Native.Nat.{_<_};
 ghost use lib.ListN.{length, getD};
 ghost use Rattle.field.specs.Domain.{between, bar, holds, asked, fieldHolds};
 ghost use Rattle.field.specs.Fields.{fieldsOf, known, domainAt, fieldsHold};
 ghost use Rattle.field.specs.Columns.{decode, rowAt};
+use quantity::both;
+use quantity::either;
 use standard::area_of;
 use standard::is_grade;
 use standard::is_link_steel;
@@ -31,18 +33,6 @@ pub enum Domain {
 // A member's fields, one to a slot in the order of its kind's table, four groups to each list. Slots past a count are not read.
 pub struct Slots {
     pub v: [u32; 40],
-}
-
-fn both(a: bool, b: bool) -> bool
-    ensures { λ r. ⌜ r ≡ (a && b) ⌝ }
-{
-    if a { b } else { false }
-}
-
-fn either(a: bool, b: bool) -> bool
-    ensures { λ r. ⌜ r ≡ (a || b) ⌝ }
-{
-    if a { true } else { b }
 }
 
 pub fn is_between(lo: u32, hi: u32, x: u32) -> bool

@@ -1,6 +1,6 @@
 // Members of a schedule by value: beams, columns and meshes with their groups of bars; sums over groups; questions 8 to 10.
 ghost use mathlib.Core.Path.{_≡_};
-ghost use mathlib.Core.Bool.{true, _&&_, _||_};
+ghost use mathlib.Core.Bool.{true};
 ghost use Prim.Native.Nat.{min};
 ghost use lib.Dec.{eqb};
 ghost use lib.ListN.{take, length};
@@ -10,8 +10,11 @@ ghost use Rattle.member.specs.Questions.{flangeFits, compressionFits, de
 ghost use Rattle.member.specs.Accepted.{AcceptedGroup, AcceptedGroups, BeamInRange};
 use quantity::Force;
 use quantity::Length;
+use quantity::both;
+use quantity::either;
 use quantity::larger;
 use quantity::smaller;
+use quantity::wide;
 use standard::area_of;
 
 // Bars of one diameter (mm).
@@ -88,12 +91,6 @@ pub struct Totals {
     pub squares: u64,
     pub largest: u64,
     pub smallest: u64,
-}
-
-fn wide(x: u32) -> u64
-    ensures { λ r. ⌜ r ≡ x ⌝ }
-{
-    x as u64
 }
 
 fn group_area(g: Group) -> u64
@@ -217,18 +214,6 @@ pub fn effective_depth(x: Beam) -> Length
     ensures { λ r. ⌜ r .0 ≡ h₀ (beamOf x) ⌝ }
 {
     x.h.minus(x.at)
-}
-
-fn both(a: bool, b: bool) -> bool
-    ensures { λ r. ⌜ r ≡ (a && b) ⌝ }
-{
-    if a { b } else { false }
-}
-
-fn either(a: bool, b: bool) -> bool
-    ensures { λ r. ⌜ r ≡ (a || b) ⌝ }
-{
-    if a { true } else { b }
 }
 
 // 8, the flange: bf ≥ b; hf = 0 if bf = b, else 1 ≤ hf ≤ h/2.

@@ -1,5 +1,6 @@
 // Whole-number arithmetic with stated rounding, and the codes' units as types of their own.
 ghost use mathlib.Core.Path.{_≡_};
+ghost use mathlib.Core.Bool.{_&&_, _||_};
 ghost use Prim.Native.Nat.{_+_, _-_, _*_, _<_, _^_, min, max};
 ghost use Rattle.quantity.specs.Rounding.{up, down, clamp};
 ghost use Rattle.quantity.specs.Unit.{newtons, millimetres, stressOf, stressOfTenths, stressOfHundredths, inUnits, inTenths, inHundredths};
@@ -45,6 +46,24 @@ pub fn clamped(lo: u64, hi: u64, x: u64) -> u64
     ensures { λ r. ⌜ r ≡ clamp lo hi x ⌝ }
 {
     smaller(hi, larger(lo, x))
+}
+
+pub fn both(a: bool, b: bool) -> bool
+    ensures { λ r. ⌜ r ≡ (a && b) ⌝ }
+{
+    if a { b } else { false }
+}
+
+pub fn either(a: bool, b: bool) -> bool
+    ensures { λ r. ⌜ r ≡ (a || b) ⌝ }
+{
+    if a { true } else { b }
+}
+
+pub fn wide(x: u32) -> u64
+    ensures { λ r. ⌜ r ≡ x ⌝ }
+{
+    x as u64
 }
 
 // Newtons.

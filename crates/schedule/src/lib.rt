@@ -1,6 +1,6 @@
 // Reads the bytes of a schedule: every byte string is accepted or gets the first question answered no, with its member.
 ghost use mathlib.Core.Path.{_≡_};
-ghost use mathlib.Core.Bool.{true, _&&_};
+ghost use mathlib.Core.Bool.{true};
 ghost use mathlib.Core.List.{List};
 ghost use Prim.Native.Nat.{ℕ, _+_, _<_, _≤_};
 ghost use lib.ListN.{set};
@@ -21,6 +21,7 @@ use field::is_asked;
 use field::is_known;
 use number::Number;
 use number::number_at;
+use quantity::both;
 use question::Question;
 use question::Refusal;
 
@@ -48,12 +49,6 @@ pub enum Answer {
 pub enum Ends {
     At(usize),
     Refused(Refusal),
-}
-
-fn both(a: bool, b: bool) -> bool
-    ensures { λ r. ⌜ r ≡ (a && b) ⌝ }
-{
-    if a { b } else { false }
 }
 
 fn refused(q: Question, member: u32) -> Answer

@@ -10,6 +10,7 @@ use member::totals_of;
 use quantity::Force;
 use quantity::Length;
 use quantity::Stress;
+use quantity::wide;
 use standard::Concrete;
 use standard::Steel;
 use standard::area_of;
@@ -48,12 +49,6 @@ pub struct Section {
     pub concrete: Concrete,
     pub steel: Steel,
     pub fyv: Stress,
-}
-
-fn wide(x: u32) -> u64
-    ensures { λ r. ⌜ r ≡ x ⌝ }
-{
-    x as u64
 }
 
 // (bf-b)·hf.

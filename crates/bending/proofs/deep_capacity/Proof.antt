@@ -2,7 +2,8 @@
 use mathlib.Core.Path.{sym}
 use native.Mathlib.Omega.{arith}
 use borrow.Author.Needs.{needs}
-use Rattle.bending.proofs.Bounds.{times-le, sizes}
+use Rattle.quantity.proofs.Product.{product-most}
+use Rattle.bending.proofs.Bounds.{sizes}
 use Rattle.bending.proofs.Capacity.{rounded-within, deep-value}
 use Rattle.bending.proofs.deep_capacity.Statement.{statement}
 use Rattle.bending.proofs.deep_capacity.Tie as tie
@@ -13,7 +14,7 @@ net-tension-requires c κs = search needs
 mul-div-up : tie.Need-mul-div-up
 mul-div-up c =
     let t = c .net-tension .result in
-    omega (arith, times-le t t 480000000 480000000 (omega (arith, sizes (c .before .pre .0))))
+    omega (arith, product-most t t 480000000 480000000 (omega (arith, sizes (c .before .pre .0))))
 
 crushing-force-requires : tie.Need-crushing-force-requires
 crushing-force-requires c κs = search needs

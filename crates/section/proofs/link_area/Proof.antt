@@ -7,7 +7,6 @@ use Rattle.section.proofs.link_area.Statement.{statement}
 use Rattle.section.proofs.link_area.Tie as tie
 use Rattle.section.proofs.link_area.Reads as reads
 use Rattle.section.proofs.link_area.Lts as lts
-use Rattle.section.proofs.wide.Reads as wide-reads
 use Rattle.standard.proofs.area_of.Reads as area-of-reads
 
 wide-requires : tie.Need-wide-requires
