@@ -3,7 +3,6 @@ ghost use mathlib.Core.Path.{_≡_};
 ghost use Rattle.member.specs.Accepted.{AcceptedMember};
 ghost use Rattle.built.specs.Slots.{memberAt};
 ghost use Rattle.checks.specs.Outcome.{outcomeOf};
-
 use beam::check_beam;
 use built::Built;
 use built::beam_of;

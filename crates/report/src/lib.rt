@@ -7,15 +7,14 @@ ghost use Rattle.number.specs.Number.{numberAt};
 ghost use Rattle.schedule.specs.Reading.{refusal};
 ghost use Rattle.report.specs.Report.{Printed, linesFrom, placeAfter};
 ghost use Rattle.report.specs.Claim.{Reported, MemberReported};
-
-use built::built_verdict;
 use built::Built;
 use built::Verdict;
+use built::built_verdict;
 use checks::check_member;
 use line::put_head;
 use line::put_line;
-use number::number_at;
 use number::Number;
+use number::number_at;
 use outcome::Outcome;
 use question::Question;
 use question::Refusal;

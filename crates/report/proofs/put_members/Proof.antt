@@ -72,10 +72,13 @@ loop-again c =
     let e = k .before .before in
     let r = e .before .before .before in
     let l = r .before .before .loop in
-    let m = sym (r .read-member .ensures) ∙ read-got _ (e .enum-told2 .given .1) in
-    (put-length (w .put-line .ensures) ∙ l .inv .0, put-bounds (w .put-line .ensures) .1, λ d n v.
-    l .inv .2 d n (rw (lines-more (l .left) _ (l .p) (l .before) (r .before .loop-test .taken) _ _ m)
-    (put-then (put-member (r .read-member .result .member) _ (k .check-member .ensures) (w .put-line .ensures)) v)))
+    let m = sym (r .read-member .ensures) ∙ read-got _ (e .enum-told2 .given .1) in (
+      put-length (w .put-line .ensures) ∙ l .inv .0,
+      put-bounds (w .put-line .ensures) .1,
+      λ d n v.
+          l .inv .2 d n (rw (lines-more (l .left) _ (l .p) (l .before) (r .before .loop-test .taken) _ _ m)
+          (put-then (put-member (r .read-member .result .member) _ (k .check-member .ensures) (w .put-line .ensures)) v)),
+    )
 
 same-length-2 : tie.Need-same-length-2 Inv-loop μ-loop
 same-length-2 c = c .before .loop .inv .0
