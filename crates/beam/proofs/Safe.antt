@@ -1,14 +1,13 @@
 -- Demand 3 for every accepted beam: one law for each check of the chain.
-use Prim.Native.Nat.{ℕ, _*_, _≤_, _<_}
+use Prim.Native.Nat.{ℕ, _*_, _≤_}
 use mathlib.Core.Path.{_≡_, refl, sym, ap, _∙_}
 use mathlib.Core.Bool.{Bool, true, false}
 use native.Mathlib.Omega.{arith}
 use lib.Dec.{leb, eqb}
 use lib.ListN.{length}
 use borrow.Author.Tests.{leb-true, leb-false}
-use Rattle.quantity.specs.Choice.{if_then_else_}
-use Rattle.quantity.specs.Fraction.{_//_, whole}
-use Rattle.quantity.specs.Safe.{NotAbove, NotBelow}
+use Rattle.quantity.specs.Fraction.{whole}
+use Rattle.quantity.specs.Safe.{NotAbove}
 use Rattle.quantity.proofs.Choice.{if-case}
 use Rattle.quantity.proofs.Safe.{capacity-pass, capacity-fail}
 use Rattle.outcome.specs.declared.Check.{Check}
@@ -27,8 +26,7 @@ use Rattle.outcome.specs.declared.Check.the-variants.{
 }
 use Rattle.outcome.specs.declared.Figure.{Figure}
 use Rattle.outcome.specs.declared.Figure.the-variants.{Reached, Unreached}
-use Rattle.outcome.specs.declared.Outcome.{Outcome}
-use Rattle.outcome.specs.Outcome.{outcome, stopped, nameOf}
+use Rattle.outcome.specs.Outcome.{outcome, nameOf}
 use Rattle.outcome.specs.Safe.{Safe}
 use Rattle.member.specs.Member.{Beam}
 use Rattle.member.specs.Accepted.{AcceptedBeam}
@@ -37,7 +35,7 @@ use Rattle.section.specs.Section.{sectionOf, G, S, M, Vd}
 use Rattle.section.specs.Bounded.{Bounded}
 use Rattle.section.proofs.Bounded.{bounded}
 use Rattle.bending.specs.Steps.{leastSteel, compressionDepth, isDeep, bendingCapacity}
-use Rattle.bending.specs.Exact.{deep, exactMoment, LeastSteelHolds, DepthHolds, BendingHolds}
+use Rattle.bending.specs.Exact.{exactMoment, BendingHolds}
 use Rattle.bending.proofs.Tests.{least-steel-pass, least-steel-fail, depth-pass, depth-fail}
 use Rattle.bending.proofs.Exact.{deep-is, moment-safe}
 use Rattle.shear.specs.Steps.{shearCapacity, linkSpacing, leastLinks}

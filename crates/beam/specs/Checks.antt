@@ -2,7 +2,6 @@
 use Prim.Native.Nat.{ℕ}
 use lib.Dec.{leb}
 use Rattle.quantity.specs.Choice.{if_then_else_}
-use Rattle.outcome.specs.declared.Check.{Check}
 use Rattle.outcome.specs.declared.Check.the-variants.{
   Passed,
   LeastSteel,
@@ -16,7 +15,6 @@ use Rattle.outcome.specs.declared.Check.the-variants.{
   CrackWidth,
   Deflection,
 }
-use Rattle.outcome.specs.declared.Figure.{Figure}
 use Rattle.outcome.specs.declared.Figure.the-variants.{Reached, Unreached}
 use Rattle.outcome.specs.declared.Outcome.{Outcome}
 use Rattle.outcome.specs.Outcome.{outcome, stopped}

@@ -1,8 +1,7 @@
 -- Demand 3 for a beam: its figures against the clauses' exact fractions, and its checks against the exact inequalities.
-use Prim.Native.Nat.{ℕ}
 use mathlib.Core.Path.{_≡_}
 use mathlib.Core.Bool.{true, false}
-use Rattle.quantity.specs.Fraction.{Frac, _//_, whole, _⊖_, _≺_}
+use Rattle.quantity.specs.Fraction.{_//_, whole, _⊖_, _≺_}
 use Rattle.outcome.specs.declared.Check.{Check}
 use Rattle.outcome.specs.declared.Check.the-variants.{
   Passed,

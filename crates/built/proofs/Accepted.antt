@@ -289,7 +289,7 @@ module _ (v : List ℕ) (e : fieldsHold (fieldsOf 3) 0 v ≡ true) where
 
 -- ---- A member of any kind.
 
-known-cases : (kind : ℕ) → known kind ≡ true → (kind ≡ 1) ⊎ ((kind ≡ 2) ⊎ (kind ≡ 3))
+pub known-cases : (kind : ℕ) → known kind ≡ true → (kind ≡ 1) ⊎ ((kind ≡ 2) ⊎ (kind ≡ 3))
 unfolding known
 known-cases kind e = cases kind (in-between {lo = 1} {hi = 3} e)
   where

@@ -1,2 +1,3 @@
 mod Made
 pub mod Accepted
+pub mod Unread

@@ -10,15 +10,18 @@ use lib.Seq.{take-append-seam}
 use Rattle.text.specs.Text.{lineOf}
 use Rattle.text.specs.Put.{Put, lastPosition}
 use Rattle.text.proofs.Put.{fits, too-long, put-whole, learnt-length}
-use Rattle.line.specs.Said.{saidBy}
 use Rattle.line.specs.Line.{lineWords, headWords, lineText}
 use Rattle.line.proofs.Said.{head-said, member-said, said-alone}
+use Rattle.question.specs.declared.Question.{Question}
+use Rattle.question.specs.declared.Question.the-variants.{Buffer}
 use Rattle.question.specs.declared.Refusal.{Refusal}
+use Rattle.outcome.specs.declared.Outcome.{Outcome}
 use Rattle.number.specs.Number.{numberAt}
 use Rattle.member.specs.Member.{Member}
 use Rattle.member.specs.Accepted.{AcceptedMember, AcceptedMembers}
 use Rattle.built.specs.declared.Built.{Built}
 use Rattle.built.specs.declared.Verdict.the-variants.{Accepted}
+use Rattle.built.specs.declared.Verdict.the-variants as verdicts
 use Rattle.built.specs.Slots.{memberOf}
 use Rattle.built.specs.Verdict.{builtVerdict}
 use Rattle.built.proofs.Accepted.{accepted-built}
@@ -30,11 +33,10 @@ use Rattle.schedule.specs.declared.Answer.the-variants as surveyed
 use Rattle.schedule.proofs.Members.{members-length}
 use Rattle.schedule.proofs.Accepted.{schedule-read, schedule-accepted}
 use Rattle.checks.specs.Outcome.{markOf, outcomeOf}
-use Rattle.checks.specs.Claim.{SafeLine}
 use Rattle.checks.proofs.Safe.{line-safe}
 use Rattle.report.specs.declared.Answer.{Answer}
 use Rattle.report.specs.declared.Answer.the-variants.{Written, Refused}
-use Rattle.report.specs.Report.{reportText, memberText, answered, bufferAfter, Printed, reportOf, memberReportOf, linesFrom, placeAfter}
+use Rattle.report.specs.Report.{reportText, memberText, Printed, reportOf, memberReportOf, linesFrom, placeAfter}
 use Rattle.report.specs.Claim.{SafeReport, Reported, MemberReported}
 use Rattle.report.proofs.Lines.{report-lines, mark-of}
 
@@ -48,10 +50,10 @@ module _ (whose : ℕ) (text d : List ℕ) (e e′ : List ℕ) (n : ℕ) (first 
       let l : r ≡ length text = learnt-length w (omega arith) in
       record { answer-is = rw s (ap Written l); buffer-is = rw s (put-whole w short) }
 
-  pub unprinted : length d < n → Printed whose text d d (Refused (refusal _ whose))
-  unprinted h =
+  pub unprinted : {a : Answer} → a ≡ Refused (refusal Buffer whose) → length d < n → Printed whose text d d a
+  unprinted q h =
       let s = lt-leb (length text) (length d) (too-long first h) in
-      record { answer-is = rw s; buffer-is = rw s }
+      record { answer-is = rw s q; buffer-is = rw s }
 
 -- what was written is the text
 pub text-written : (whose : ℕ) (text d d′ : List ℕ) (a : Answer) (n : ℕ) → Printed whose text d d′ a → a ≡ Written n → take n d′ ≡ text
@@ -65,7 +67,7 @@ text-written whose text d d′ a n p e = go (decLe (length text) (length d))
         rw (l, (rw s at (p .buffer-is))) (take-append-seam text (drop (length text) d))
     go (no h) =
         let g : length d < length text = omega arith in
-        let w : Written n ≡ Refused (refusal _ whose) = sym e ∙ (rw (lt-leb (length text) (length d) g) at (p .answer-is)) in
+        let w : Written n ≡ Refused (refusal Buffer whose) = sym e ∙ (rw (lt-leb (length text) (length d) g) at (p .answer-is)) in
         absurd (let z : _≡_ {A = ℕ} 0 1 = cc in omega arith)
 
 -- ---- A schedule.
@@ -101,3 +103,56 @@ refused s d r e =
       buffer-is = rw e;
       claim = λ k n f w. absurd (let z : _≡_ {A = ℕ} 0 1 = cc in omega arith);
     }
+
+-- ---- How the survey's answer picks the case.
+
+pub surveyed-no : (o : Reading Refusal (List Member)) (r : Refusal) → surveyed.Refused r ≡ answerOf o → o ≡ reading.no r
+surveyed-no (got ms) r e = absurd (let z : _≡_ {A = ℕ} 0 1 = cc in omega arith)
+surveyed-no (reading.no q) r e = cc
+
+record Read (s : List ℕ) (count at : ℕ) : Type 0 where
+  ms : List Member
+  reads : schedule s ≡ got ms
+  text : lineText (headWords count) ++ linesFrom count s at 0 ≡ reportText ms
+
+read-of : (s : List ℕ) (o : Reading Refusal (List Member)) (count at : ℕ) → schedule s ≡ o → surveyed.Accepted count ≡ answerOf o →
+    at ≡ placeAfter (numberAt s 0) → Read s count at
+read-of s (got ms) count at e a p =
+    let f = schedule-read s ms e in
+    let c : count ≡ length ms = cc in
+    let l = members-length (f .count) s (f .start) 0 1 ms (f .end) (f .reads) in
+    let k : count ≡ f .count = c ∙ l in
+    let q : at ≡ f .start = p ∙ ap placeAfter (f .counted) in
+    record { ms = ms; reads = e; text = rw (k, q) (report-lines (f .count) s (f .start) ms (f .end) (f .reads)) }
+read-of s (reading.no r) count at e a p = absurd (let z : _≡_ {A = ℕ} 0 1 = cc in omega arith)
+
+pub surveyed-yes : (s d d′ : List ℕ) (a : Answer) (count at : ℕ) → surveyed.Accepted count ≡ answerOf (schedule s) →
+    at ≡ placeAfter (numberAt s 0) → Printed 0 (lineText (headWords count) ++ linesFrom count s at 0) d d′ a → Reported s d d′ a
+surveyed-yes s d d′ a count at e p w =
+    let r = read-of s (schedule s) count at refl e p in
+    reported s d d′ a (r .ms) (r .reads) (rw (r .text) at w)
+
+-- ---- A built member.
+
+module _ (x : Built) where
+  pub member-reported : (d d′ : List ℕ) (a : Answer) → builtVerdict (x .mark) (x .kind) (x .fields .v) ≡ Accepted →
+      Printed 1 (memberText (memberOf x)) d d′ a → MemberReported x d d′ a
+  unfolding memberReportOf
+  member-reported d d′ a e p =
+      record {
+        answer-is = rw e (p .answer-is);
+        buffer-is = rw e (p .buffer-is);
+        claim = λ n w.
+            rw (text-written 1 (memberText (memberOf x)) d d′ a n p w)
+            (line-safe (memberOf x) (lineOf 0 (memberText (memberOf x))) (accepted-built (x .mark) (x .kind) (x .fields .v) e) (said-alone (markOf (memberOf x)) (outcomeOf (memberOf x))));
+      }
+
+  pub printed-member : {d d′ : List ℕ} {a : Answer} (o : Outcome) → o ≡ outcomeOf (memberOf x) →
+      Printed 1 (lineText (lineWords (x .mark) o)) d d′ a → Printed 1 (memberText (memberOf x)) d d′ a
+  printed-member o e p = rw (mark-of (x .mark) (x .kind) (x .fields .v), ← e) p
+
+  pub member-refused : (d : List ℕ) (q : Question) → builtVerdict (x .mark) (x .kind) (x .fields .v) ≡ verdicts.Refused q →
+      MemberReported x d d (Refused (refusal q 1))
+  unfolding memberReportOf
+  member-refused d q e =
+      record { answer-is = rw e; buffer-is = rw e; claim = λ n w. absurd (let z : _≡_ {A = ℕ} 0 1 = cc in omega arith) }

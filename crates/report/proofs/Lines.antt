@@ -9,7 +9,7 @@ use lib.ListN.{length}
 use Rattle.quantity.specs.Choice.{if_then_else_}
 use Rattle.text.specs.Text.{textOf, endedBy}
 use Rattle.text.specs.Put.{Put}
-use Rattle.line.specs.Line.{lineWords, headWords, lineText, reportWords}
+use Rattle.line.specs.Line.{lineWords, headWords, lineText}
 use Rattle.line.proofs.Text.{text-append}
 use Rattle.question.specs.declared.Question.{Question}
 use Rattle.outcome.specs.declared.Outcome.{Outcome}

@@ -1,7 +1,7 @@
 -- The report of a schedule and of one built member (document 01, "One schedule, printed"), the answer, and the buffer afterwards.
 use Prim.Native.Nat.{ℕ, zero, suc}
 use mathlib.Core.Path.{_≡_}
-use mathlib.Core.List.{List, [], _∷_, _++_}
+use mathlib.Core.List.{List, [], _++_}
 use lib.Dec.{leb}
 use lib.ListN.{length, drop}
 use Rattle.quantity.specs.Choice.{if_then_else_}

@@ -3,3 +3,4 @@ pub mod Held
 pub mod Members
 pub mod Answers
 pub mod Accepted
+pub mod Examples

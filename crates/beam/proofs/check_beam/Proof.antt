@@ -1,13 +1,10 @@
+-- `beam::check_beam` meets its contract.
 use mathlib.Core.Path.{_∙_, ap}
 use Rattle.section.proofs.Bounded.{bounded}
 use Rattle.beam.specs.Checks.{sectionOutcome, beamOutcome}
 use borrow.Author.Needs.{needs}
 use Rattle.beam.proofs.check_beam.Statement.{statement}
 use Rattle.beam.proofs.check_beam.Tie as tie
-use Rattle.beam.proofs.check_beam.Reads as reads
-use Rattle.beam.proofs.check_beam.Lts as lts
-use Rattle.beam.proofs.check_section.Reads as check-section-reads
-use Rattle.section.proofs.section_of.Reads as section-of-reads
 
 section-of-requires : tie.Need-section-of-requires
 section-of-requires c κs = search needs

@@ -1,14 +1,10 @@
+-- `beam::check_section` meets its contract.
 use Rattle.bending.proofs.Tests.{least-steel-pass}
 use mathlib.Core.Path.{sym, _∙_}
 use Rattle.beam.specs.Checks.{sectionOutcome}
 use borrow.Author.Needs.{needs}
 use Rattle.beam.proofs.check_section.Statement.{statement}
 use Rattle.beam.proofs.check_section.Tie as tie
-use Rattle.beam.proofs.check_section.Reads as reads
-use Rattle.beam.proofs.check_section.Lts as lts
-use Rattle.beam.proofs.from_depth.Reads as from-depth-reads
-use Rattle.beam.proofs.stop.Reads as stop-reads
-use Rattle.bending.proofs.least_steel.Reads as least-steel-reads
 
 least-steel-requires : tie.Need-least-steel-requires
 least-steel-requires c κs = c .pre

@@ -1,17 +1,8 @@
+-- `beam::from_bending` meets its contract.
 use Rattle.beam.proofs.Chain.{bending-holds, bending-fails}
-use mathlib.Core.Path.{_≡_, sym, ap, _∙_}
-use borrow.Author.Tests.{le-leb, lt-leb}
-use Rattle.beam.specs.Checks.{fromBending}
 use borrow.Author.Needs.{needs}
 use Rattle.beam.proofs.from_bending.Statement.{statement}
 use Rattle.beam.proofs.from_bending.Tie as tie
-use Rattle.beam.proofs.from_bending.Reads as reads
-use Rattle.beam.proofs.from_bending.Lts as lts
-use Rattle.beam.proofs.after_bending.Reads as after-bending-reads
-use Rattle.beam.proofs.bending_check.Reads as bending-check-reads
-use Rattle.beam.proofs.from_shear.Reads as from-shear-reads
-use Rattle.bending.proofs.bending_capacity.Reads as bending-capacity-reads
-use Rattle.bending.proofs.is_deep.Reads as is-deep-reads
 
 bending-capacity-requires : tie.Need-bending-capacity-requires
 bending-capacity-requires c κs = (c .pre .0, c .pre .2)

@@ -1,13 +1,8 @@
-use mathlib.Core.Path.{_≡_, sym, ap, _∙_}
+-- `beam::from_deflection` meets its contract.
 use Rattle.beam.specs.Checks.{fromDeflection}
 use borrow.Author.Needs.{needs}
 use Rattle.beam.proofs.from_deflection.Statement.{statement}
 use Rattle.beam.proofs.from_deflection.Tie as tie
-use Rattle.beam.proofs.from_deflection.Reads as reads
-use Rattle.beam.proofs.from_deflection.Lts as lts
-use Rattle.beam.proofs.last_check.Reads as last-check-reads
-use Rattle.service.proofs.deflection_figure.Reads as deflection-figure-reads
-use Rattle.service.proofs.deflection_holds.Reads as deflection-holds-reads
 
 deflection-figure-requires : tie.Need-deflection-figure-requires
 deflection-figure-requires c κs = search needs

@@ -1,13 +1,9 @@
+-- `beam::from_depth` meets its contract.
 use mathlib.Core.Path.{sym, _∙_}
 use Rattle.beam.specs.Checks.{fromDepth}
 use borrow.Author.Needs.{needs}
 use Rattle.beam.proofs.from_depth.Statement.{statement}
 use Rattle.beam.proofs.from_depth.Tie as tie
-use Rattle.beam.proofs.from_depth.Reads as reads
-use Rattle.beam.proofs.from_depth.Lts as lts
-use Rattle.beam.proofs.from_bending.Reads as from-bending-reads
-use Rattle.beam.proofs.stop.Reads as stop-reads
-use Rattle.bending.proofs.compression_depth.Reads as compression-depth-reads
 
 compression-depth-requires : tie.Need-compression-depth-requires
 compression-depth-requires c κs = c .pre .0

@@ -1,13 +1,9 @@
+-- `beam::from_least_links` meets its contract.
 use mathlib.Core.Path.{sym, _∙_}
 use Rattle.beam.specs.Checks.{fromLeastLinks}
 use borrow.Author.Needs.{needs}
 use Rattle.beam.proofs.from_least_links.Statement.{statement}
 use Rattle.beam.proofs.from_least_links.Tie as tie
-use Rattle.beam.proofs.from_least_links.Reads as reads
-use Rattle.beam.proofs.from_least_links.Lts as lts
-use Rattle.beam.proofs.after_shear.Reads as after-shear-reads
-use Rattle.beam.proofs.from_stress.Reads as from-stress-reads
-use Rattle.shear.proofs.least_links.Reads as least-links-reads
 
 least-links-requires : tie.Need-least-links-requires
 least-links-requires c κs = c .pre .0

@@ -1,17 +1,10 @@
-use Prim.Native.Nat.{ℕ}
+-- `beam::from_shear` meets its contract.
 use Rattle.quantity.specs.declared.Force.{Force}
 use Rattle.beam.proofs.Chain.{shear-holds, shear-fails}
-use mathlib.Core.Path.{_≡_, sym, ap, _∙_}
-use borrow.Author.Tests.{le-leb, lt-leb}
-use Rattle.beam.specs.Checks.{fromShear}
+use mathlib.Core.Path.{ap}
 use borrow.Author.Needs.{needs}
 use Rattle.beam.proofs.from_shear.Statement.{statement}
 use Rattle.beam.proofs.from_shear.Tie as tie
-use Rattle.beam.proofs.from_shear.Reads as reads
-use Rattle.beam.proofs.from_shear.Lts as lts
-use Rattle.beam.proofs.after_shear.Reads as after-shear-reads
-use Rattle.beam.proofs.from_spacing.Reads as from-spacing-reads
-use Rattle.shear.proofs.shear_capacity.Reads as shear-capacity-reads
 
 shear-capacity-requires : tie.Need-shear-capacity-requires
 shear-capacity-requires c κs = c .pre .0

@@ -1,13 +1,9 @@
+-- `beam::from_spacing` meets its contract.
 use mathlib.Core.Path.{sym, _∙_}
 use Rattle.beam.specs.Checks.{fromSpacing}
 use borrow.Author.Needs.{needs}
 use Rattle.beam.proofs.from_spacing.Statement.{statement}
 use Rattle.beam.proofs.from_spacing.Tie as tie
-use Rattle.beam.proofs.from_spacing.Reads as reads
-use Rattle.beam.proofs.from_spacing.Lts as lts
-use Rattle.beam.proofs.after_shear.Reads as after-shear-reads
-use Rattle.beam.proofs.from_least_links.Reads as from-least-links-reads
-use Rattle.shear.proofs.link_spacing.Reads as link-spacing-reads
 
 link-spacing-requires : tie.Need-link-spacing-requires
 link-spacing-requires c κs = c .pre .0

@@ -1,13 +1,9 @@
+-- `beam::from_stress` meets its contract.
 use mathlib.Core.Path.{sym, _∙_}
 use Rattle.beam.specs.Checks.{fromStress}
 use borrow.Author.Needs.{needs}
 use Rattle.beam.proofs.from_stress.Statement.{statement}
 use Rattle.beam.proofs.from_stress.Tie as tie
-use Rattle.beam.proofs.from_stress.Reads as reads
-use Rattle.beam.proofs.from_stress.Lts as lts
-use Rattle.beam.proofs.after_shear.Reads as after-shear-reads
-use Rattle.beam.proofs.from_width.Reads as from-width-reads
-use Rattle.service.proofs.stress_holds.Reads as stress-holds-reads
 
 stress-holds-requires : tie.Need-stress-holds-requires
 stress-holds-requires c κs = c .pre .0

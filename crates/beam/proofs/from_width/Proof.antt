@@ -1,18 +1,9 @@
+-- `beam::from_width` meets its contract.
 use mathlib.Core.Path.{refl}
 use Rattle.beam.proofs.Chain.{width-holds, width-fails}
-use mathlib.Core.Path.{_≡_, sym, ap, _∙_}
-use borrow.Author.Tests.{le-leb, lt-leb}
-use Rattle.beam.specs.Checks.{fromWidth}
 use borrow.Author.Needs.{needs}
 use Rattle.beam.proofs.from_width.Statement.{statement}
 use Rattle.beam.proofs.from_width.Tie as tie
-use Rattle.beam.proofs.from_width.Reads as reads
-use Rattle.beam.proofs.from_width.Lts as lts
-use Rattle.beam.proofs.from_deflection.Reads as from-deflection-reads
-use Rattle.service.proofs.crack_width.Reads as crack-width-reads
-use Rattle.service.proofs.mean_stress.Reads as mean-stress-reads
-use Rattle.service.proofs.steel_stress.Reads as steel-stress-reads
-use Rattle.service.proofs.width_limit.Reads as width-limit-reads
 
 steel-stress-requires : tie.Need-steel-stress-requires
 steel-stress-requires c κs = (c .pre .0, c .pre .2)

@@ -1,17 +1,8 @@
-use mathlib.Core.Path.{_≡_}
-use Rattle.member.specs.Accepted.{AcceptedBeam, AcceptedColumn, AcceptedMesh}
+-- `checks::check_member` meets its contract.
 use Rattle.checks.proofs.Safe.{as-beam, as-column, as-mesh, beam-outcome, column-outcome, mesh-outcome}
 use borrow.Author.Needs.{needs}
 use Rattle.checks.proofs.check_member.Statement.{statement}
 use Rattle.checks.proofs.check_member.Tie as tie
-use Rattle.checks.proofs.check_member.Reads as reads
-use Rattle.checks.proofs.check_member.Lts as lts
-use Rattle.beam.proofs.check_beam.Reads as check-beam-reads
-use Rattle.built.proofs.beam_of.Reads as beam-of-reads
-use Rattle.built.proofs.column_of.Reads as column-of-reads
-use Rattle.built.proofs.mesh_of.Reads as mesh-of-reads
-use Rattle.column.proofs.check_column.Reads as check-column-reads
-use Rattle.mesh.proofs.check_mesh.Reads as check-mesh-reads
 
 beam-of-requires : tie.Need-beam-of-requires
 beam-of-requires c κs = search needs

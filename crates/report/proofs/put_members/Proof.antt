@@ -13,11 +13,6 @@ use Rattle.report.specs.Report.{linesFrom}
 use Rattle.report.proofs.Lines.{lines-none, lines-refused, lines-more, put-member}
 use Rattle.report.proofs.put_members.Statement.{statement}
 use Rattle.report.proofs.put_members.Tie as tie
-use Rattle.report.proofs.put_members.Reads as reads
-use Rattle.report.proofs.put_members.Lts as lts
-use Rattle.checks.proofs.check_member.Reads as check-member-reads
-use Rattle.line.proofs.put_line.Reads as put-line-reads
-use Rattle.schedule.proofs.read_member.Reads as read-member-reads
 
 abbrev Inv-loop : tie.InvT-loop
 Inv-loop src at count out₀ to p₀ before₀ left₀ q₀ out p before left q =

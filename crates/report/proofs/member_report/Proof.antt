@@ -1,0 +1,48 @@
+-- `report::member_report` meets its contract.
+use mathlib.Core.Path.{sym, _∙_}
+use Rattle.built.proofs.Accepted.{accepted-built}
+use Rattle.report.proofs.Claim.{member-reported, printed-member, member-refused}
+use borrow.Author.Needs.{needs}
+use Rattle.report.proofs.member_report.Statement.{statement}
+use Rattle.report.proofs.member_report.Tie as tie
+
+built-verdict-requires : tie.Need-built-verdict-requires
+built-verdict-requires c κs = search needs
+
+enum-known-q : tie.Need-enum-known-q
+enum-known-q c = search needs
+
+enum-told : tie.Need-enum-told
+enum-told c = search needs
+
+check-member-requires : tie.Need-check-member-requires
+check-member-requires c κs = accepted-built _ _ _ (sym (c .before .before .built-verdict .ensures) ∙ c .enum-told .given .1)
+
+print-line-requires : tie.Need-print-line-requires
+print-line-requires c κs = search needs
+
+returns : tie.Need-returns
+returns c = member-refused _ _ _ (sym (c .before .before .before .built-verdict .ensures) ∙ c .before .q .given .1)
+
+same-length : tie.Need-same-length
+same-length c = search needs
+
+returns-2 : tie.Need-returns-2
+returns-2 c =
+    let k = c .before .before .before .before in
+    let v = k .before .before .before in
+    member-reported (v .before .before .args .x) _ _ _ (sym (v .built-verdict .ensures) ∙ k .before .enum-told .given .1)
+    (printed-member (v .before .before .args .x) _ (k .check-member .ensures) (c .before .before .print-line .ensures))
+
+pub member-report-spec : {M : Type 1} → statement M
+member-report-spec =
+    tie.close
+    (tie.spec
+    built-verdict-requires
+    enum-known-q
+    enum-told
+    check-member-requires
+    print-line-requires
+    returns
+    same-length
+    returns-2)
