@@ -3,8 +3,7 @@ use Prim.Native.Nat.{ℕ, _^_, _≤_, _<_}
 use mathlib.Core.Path.{_≡_}
 use mathlib.Core.List.{List, [], _∷_, map}
 use native.Mathlib.Omega.{arith}
-use lib.ListN.{length}
-use lib.Seq.{length-map}
+use lib.ListN.{length, length-map}
 use Rattle.text.proofs.All.{All, all-none, all-and}
 use Rattle.line.specs.Line.{lineWords, headWords, lineText}
 use Rattle.line.proofs.Length.{line-short, head-short, text-short}
@@ -32,4 +31,4 @@ lines-short (m ∷ ms) a = all-and (member-line-short m (a .0)) (lines-short ms 
 pub report-short : (ms : List Member) → AcceptedMembers ms → length ms ≤ 500 → length (reportText ms) ≤ 60000
 report-short ms a h =
     let head : length (lineText (headWords (length ms))) ≤ 55 = omega (arith, head-short 3 (length ms) (omega arith) (omega arith)) in
-    omega (arith, text-short 55 (all-and head (lines-short ms a)), length-map (λ m. lineWords (markOf m) (outcomeOf m)) ms)
+    omega (arith, text-short 55 (all-and head (lines-short ms a)), length-map ms (λ m. lineWords (markOf m) (outcomeOf m)))
