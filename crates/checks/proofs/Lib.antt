@@ -1,1 +1,2 @@
 pub mod Safe
+pub mod Figures

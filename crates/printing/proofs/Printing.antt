@@ -1,0 +1,112 @@
+-- The two ways out of `print_schedule`.
+use Prim.Native.Nat.{ℕ, _^_, _≤_, _<_}
+use mathlib.Core.Path.{_≡_, refl, sym, ap, _∙_}
+use mathlib.Core.List.{List, _++_}
+use native.Mathlib.Nat.{zero-add}
+use native.Mathlib.Decide.{decLe}
+use native.Mathlib.Omega.{arith}
+use borrow.Author.Tests.{le-leb, lt-leb}
+use lib.ListN.{length, drop}
+use lib.Seq.{sets-eq}
+use Rattle.text.specs.Put.{Put, lastPosition}
+use Rattle.text.proofs.Put.{put-whole, learnt-length}
+use Rattle.line.specs.Line.{refusalWords, lineText}
+use Rattle.line.proofs.Length.{refusal-short}
+use Rattle.question.specs.declared.Refusal.{Refusal}
+use Rattle.question.specs.declared.Question.the-variants.{Buffer}
+use Rattle.question.specs.Question.{numberOf}
+use Rattle.member.specs.Member.{Member}
+use Rattle.schedule.specs.Reading.{Reading, got, refusal}
+use Rattle.schedule.specs.Reading as reading
+use Rattle.schedule.specs.Schedule.{schedule}
+use Rattle.schedule.proofs.Accepted.{schedule-accepted}
+use Rattle.report.specs.declared.Answer.{Answer}
+use Rattle.report.specs.declared.Answer.the-variants.{Written, Refused}
+use Rattle.report.specs.Report.{reportText, answered, bufferAfter, reportOf, printed}
+use Rattle.report.specs.Claim.{Reported}
+use Rattle.report.proofs.Length.{report-short}
+use Rattle.printing.specs.Printing.{refusalText, shown, outputOf, askRoom, PrintedSchedule}
+
+-- a text that fits was put
+put-text : (s d d′ : List ℕ) (n : ℕ) → length d < lastPosition → length s ≤ length d → n ≡ length s → d′ ≡ s ++ drop (length s) d → Put d 0 s d′ n
+put-text s d d′ n k h e f =
+    record { bytes = f ∙ sym (sets-eq s d 0 (omega arith) ∙ rw zero-add); next = omega arith; short = k }
+
+-- a text that was put, where it fits
+put-fits : (s d d′ : List ℕ) (n : ℕ) → Put d 0 s d′ n → length s ≤ length d → (n ≡ length s) × (d′ ≡ s ++ drop (length s) d)
+put-fits s d d′ n w h = (learnt-length w (omega (arith, w .short)), put-whole w h)
+
+-- a report is at most 60,000 bytes
+report-fits : (s t : List ℕ) → reportOf s ≡ got t → length t ≤ 60000
+unfolding reportOf
+report-fits s t e = go (schedule s) refl e
+  where
+    go : (o : Reading Refusal (List Member)) → schedule s ≡ o → printed o ≡ got t → length t ≤ 60000
+    go (got ms) p q =
+        let same : reportText ms ≡ t = cc in
+        let a = schedule-accepted s ms p in
+        rw (← same) (report-short ms (a .0) (a .1))
+    go (reading.no r) p q = absurd (let z : _≡_ {A = ℕ} 0 1 = cc in omega arith)
+
+-- ---- A report or a refusal o.
+
+-- what `print_schedule` promises of it
+record Shown (o : Reading Refusal (List ℕ)) (d d′ : List ℕ) (n : ℕ) : Type 0 where
+  put : Put d 0 (shown (askRoom (length d) o)) d′ n
+  whole : 60000 ≤ length d → (n ≡ length (shown o)) × (d′ ≡ shown o ++ drop (length (shown o)) d)
+
+module _ (d d′ : List ℕ) (n : ℕ) where
+  written : (o : Reading Refusal (List ℕ)) → length d < lastPosition → Written n ≡ answered 0 o (length d) → d′ ≡ bufferAfter o d → Shown o d d′ n
+  written (got t) k e f = go (decLe (length t) (length d))
+    where
+      go : Dec (length t ≤ length d) → Shown (got t) d d′ n
+      go (yes h) =
+          let l = le-leb (length t) (length d) h in
+          let w : Written n ≡ Written (length t) = rw l at e in
+          let c : n ≡ length t = cc in
+          let b : d′ ≡ t ++ drop (length t) d = rw l at f in
+          record { put = rw l (put-text t d d′ n k h c b); whole = λ _. (c, b) }
+      go (no h) =
+          let g : length d < length t = omega arith in
+          let w : Written n ≡ Refused (refusal Buffer 0) = rw (lt-leb (length t) (length d) g) at e in
+          absurd (let z : _≡_ {A = ℕ} 0 1 = cc in omega arith)
+  written (reading.no r) k e f = absurd (let z : _≡_ {A = ℕ} 0 1 = cc in omega arith)
+
+  refused : (o : Reading Refusal (List ℕ)) (r : Refusal) (d₁ : List ℕ) → ((t : List ℕ) → o ≡ got t → length t ≤ 60000) → length (refusalText r) ≤ 60000 →
+      Refused r ≡ answered 0 o (length d) → d₁ ≡ bufferAfter o d → Put d₁ 0 (refusalText r) d′ n → Shown o d d′ n
+  refused (got t) r d₁ s u e f w = go (decLe (length t) (length d))
+    where
+      go : Dec (length t ≤ length d) → Shown (got t) d d′ n
+      go (yes h) =
+          let v : Refused r ≡ Written (length t) = rw (le-leb (length t) (length d) h) at e in
+          absurd (let z : _≡_ {A = ℕ} 0 1 = cc in omega arith)
+      go (no h) =
+          let g : length d < length t = omega arith in
+          let l = lt-leb (length t) (length d) g in
+          let v : Refused r ≡ Refused (refusal Buffer 0) = rw l at e in
+          let same : r ≡ refusal Buffer 0 = cc in
+          let b : d₁ ≡ d = rw l at f in
+          record { put = rw l (rw (same, b) at w); whole = λ k. absurd (omega (arith, s t refl)) }
+  refused (reading.no q) r d₁ s u e f w =
+      let same : r ≡ q = cc in
+      let w′ : Put d 0 (refusalText q) d′ n = rw (same, f) at w in
+      let u′ : length (refusalText q) ≤ 60000 = rw same at u in
+      record { put = w′; whole = λ k. put-fits (refusalText q) d d′ n w′ (omega arith) }
+
+-- ---- Of a schedule's bytes.
+
+module _ (s d d′ : List ℕ) (n : ℕ) where
+  pub was-written : (a : Answer) → a ≡ Written n → length d < lastPosition → Reported s d d′ a → PrintedSchedule s d d′ n
+  unfolding outputOf
+  was-written a e k p =
+      let o = written d d′ n (reportOf s) k (sym e ∙ p .answer-is) (p .buffer-is) in
+      record { put = o .put; whole = o .whole }
+
+  -- k is the question's number as the code has it; it and the member's have at most ten digits
+  pub was-refused : (a : Answer) (r : Refusal) (k : ℕ) (d₁ : List ℕ) → a ≡ Refused r → k < 10 ^ 10 → r .member < 10 ^ 10 → k ≡ numberOf (r .question) →
+      Reported s d d₁ a → Put d₁ 0 (lineText (refusalWords k (r .member))) d′ n → PrintedSchedule s d d′ n
+  unfolding outputOf
+  was-refused a r k d₁ i h g e p w =
+      let u : length (lineText (refusalWords k (r .member))) ≤ 60000 = omega (arith, refusal-short 10 10 k (r .member) (omega arith) (omega arith) h g) in
+      let o = refused d d′ n (reportOf s) r d₁ (report-fits s) (rw e at u) (sym i ∙ p .answer-is) (p .buffer-is) (rw e at w) in
+      record { put = o .put; whole = o .whole }

@@ -1,0 +1,58 @@
+-- `printing::print_schedule` meets its contract.
+use native.Mathlib.Omega.{arith}
+use Rattle.printing.proofs.Printing.{was-written, was-refused}
+use borrow.Author.Needs.{needs}
+use Rattle.printing.proofs.print_schedule.Statement.{statement}
+use Rattle.printing.proofs.print_schedule.Tie as tie
+use Rattle.printing.proofs.print_schedule.Reads as reads
+use Rattle.printing.proofs.print_schedule.Lts as lts
+use Rattle.line.proofs.put_refusal.Reads as put-refusal-reads
+use Rattle.question.proofs.number_of.Reads as number-of-reads
+use Rattle.report.proofs.report.Reads as report-reads
+
+report-requires : tie.Need-report-requires
+report-requires c κs = search needs
+
+enum-known-n : tie.Need-enum-known-n
+enum-known-n c = search needs
+
+enum-known-r : tie.Need-enum-known-r
+enum-known-r c = search needs
+
+number-of-requires : tie.Need-number-of-requires
+number-of-requires c κs = search needs
+
+put-refusal-requires : tie.Need-put-refusal-requires
+put-refusal-requires c κs = search needs
+
+same-length : tie.Need-same-length
+same-length c = search needs
+
+returns : tie.Need-returns
+returns c =
+    was-written _ _ _ _ _ (c .before .n .given .1) (omega arith) (c .before .before .before .before .before .report .ensures)
+
+same-length-2 : tie.Need-same-length-2
+same-length-2 c = search needs
+
+returns-2 : tie.Need-returns-2
+returns-2 c =
+    let e = c .before .before in
+    let m = e .before .before .before .before in
+    was-refused _ _ _ _ _ _ _ _ (m .r .given .1) (omega arith) (omega arith) (e .before .number-of .ensures)
+    (m .before .before .before .before .report .ensures)
+    (e .put-refusal .ensures)
+
+pub print-schedule-spec : {M : Type 1} → statement M
+print-schedule-spec =
+    tie.close
+    (tie.spec
+    report-requires
+    enum-known-n
+    enum-known-r
+    number-of-requires
+    put-refusal-requires
+    same-length
+    returns
+    same-length-2
+    returns-2)

@@ -1,0 +1,38 @@
+-- What the report program prints for a schedule's bytes (document 01, "One schedule, printed").
+use Prim.Native.Nat.{ℕ, _≤_}
+use mathlib.Core.Path.{_≡_}
+use mathlib.Core.List.{List, _++_}
+use lib.Dec.{leb}
+use lib.ListN.{length, drop}
+use Rattle.quantity.specs.Choice.{if_then_else_}
+use Rattle.text.specs.Put.{Put}
+use Rattle.line.specs.Line.{refusalWords, lineText}
+use Rattle.question.specs.declared.Question.the-variants.{Buffer}
+use Rattle.question.specs.declared.Refusal.{Refusal}
+use Rattle.question.specs.Question.{numberOf}
+use Rattle.schedule.specs.Reading.{Reading, got, no, refusal}
+use Rattle.report.specs.Report.{reportOf}
+
+-- refused N member M
+abbrev pub refusalText : Refusal → List ℕ
+refusalText r = lineText (refusalWords (numberOf (r .question)) (r .member))
+
+-- the report, or the refusal
+abbrev pub shown : Reading Refusal (List ℕ) → List ℕ
+shown (got text) = text
+shown (no r) = refusalText r
+
+unfoldable pub outputOf : List ℕ → List ℕ
+outputOf src = shown (reportOf src)
+
+-- question 12: is the report at most `room` bytes?
+abbrev pub askRoom : ℕ → Reading Refusal (List ℕ) → Reading Refusal (List ℕ)
+askRoom room (got text) = if leb (length text) room then got text else no (refusal Buffer 0)
+askRoom room (no r) = no r
+
+-- What `print_schedule` promises, for all bytes and every buffer.
+pub record PrintedSchedule (src before after : List ℕ) (n : ℕ) : Type 0 where
+  -- the report, or the refusal, 12 among them, is put at the buffer's start
+  pub put : Put before 0 (shown (askRoom (length before) (reportOf src))) after n
+  -- 60,000 bytes are room for every report: then the output is whole, 12 is never the refusal, and the bytes past the output stay
+  pub whole : 60000 ≤ length before → (n ≡ length (outputOf src)) × (after ≡ outputOf src ++ drop (length (outputOf src)) before)
