@@ -6,8 +6,8 @@ use native.Mathlib.Nat.{zero-add}
 use native.Mathlib.Decide.{decLe}
 use native.Mathlib.Omega.{arith}
 use borrow.Author.Tests.{le-leb, lt-leb}
-use lib.ListN.{length, drop}
-use lib.Seq.{sets-eq}
+use lib.ListN.{length, take, drop, length-append}
+use lib.Seq.{sets-eq, take-append-seam}
 use Rattle.text.specs.Put.{Put, lastPosition}
 use Rattle.text.proofs.Put.{put-whole, learnt-length}
 use Rattle.line.specs.Line.{refusalWords, lineText}
@@ -110,3 +110,11 @@ module _ (s d d′ : List ℕ) (n : ℕ) where
       let u : length (lineText (refusalWords k (r .member))) ≤ 60000 = omega (arith, refusal-short 10 10 k (r .member) (omega arith) (omega arith) h g) in
       let o = refused d d′ n (reportOf s) r d₁ (report-fits s) (rw e at u) (sym i ∙ p .answer-is) (p .buffer-is) (rw e at w) in
       record { put = o .put; whole = o .whole }
+
+-- what is printed stands within a buffer of 60,000 bytes or more
+pub within : (s d d′ : List ℕ) (n : ℕ) → PrintedSchedule s d d′ n → 60000 ≤ length d → (n ≤ length d′) × (n ≡ length (take n d′))
+within s d d′ n p h =
+    let t = outputOf s in
+    let e : n ≡ length t = p .whole h .0 in
+    let f : d′ ≡ t ++ drop (length t) d = p .whole h .1 in
+    rw (e, f) (omega (arith, length-append t (drop (length t) d)), ap length (sym (take-append-seam t (drop (length t) d))))
