@@ -1,0 +1,1 @@
+// Document 01's tabled cases, proved in proofs/Cases.antt.
