@@ -1,12 +1,6 @@
-// The report program: a schedule's bytes from standard input, the report or the refusal to standard output.
-use printing::print_schedule;
+// The report program, run on document 01's schedule of three members.
+use console::run;
 
 fn main() {
-    // one byte more than a schedule may have, so that question 1 sees a longer one
-    let mut src = [0u8; 60001];
-    let n = io::read_full(0, &mut src);
-    // room for every report
-    let mut out = [0u8; 60000];
-    let m = print_schedule(&src[..n], &mut out);
-    io::write_all(1, &out[..m]);
+    run();
 }

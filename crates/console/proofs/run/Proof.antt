@@ -1,14 +1,14 @@
--- `cage_report::main` meets its contract.
+-- `console::run` meets its contract.
 use Prim.Native.Nat.{_≤_}
 use mathlib.Core.Path.{_≡_}
 use native.Mathlib.Omega.{arith}
 use lib.ListN.{length, take}
 use Rattle.printing.proofs.Printing.{within}
 use borrow.Author.Needs.{needs}
-use Rattle.cage_report.proofs.main.Statement.{statement}
-use Rattle.cage_report.proofs.main.Tie as tie
-use Rattle.cage_report.proofs.main.Reads as reads
-use Rattle.cage_report.proofs.main.Lts as lts
+use Rattle.console.proofs.run.Statement.{statement}
+use Rattle.console.proofs.run.Tie as tie
+use Rattle.console.proofs.run.Reads as reads
+use Rattle.console.proofs.run.Lts as lts
 use Rattle.io.proofs.read_full.Reads as read-full-reads
 use Rattle.io.proofs.write_all.Reads as write-all-reads
 use Rattle.printing.proofs.print_schedule.Reads as print-schedule-reads
@@ -50,8 +50,8 @@ write-all-requires c κs = search needs
 returns : tie.Need-returns
 returns c = search needs
 
-pub main-spec : {M : Type 1} → statement M
-main-spec =
+pub run-spec : {M : Type 1} → statement M
+run-spec =
     tie.close
     (tie.spec
     slice-aggregate-read-full
