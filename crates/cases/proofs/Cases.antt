@@ -1,7 +1,7 @@
 -- Document 01's tabled cases ("One schedule, printed"), each worked out by the definition of the checks.
 use Prim.Native.Nat.{ℕ, _*_, _/_}
 use mathlib.Core.Path.{_≡_, refl}
-use mathlib.Core.List.{List, [], _∷_, map}
+use mathlib.Core.List.{[], _∷_, map}
 use Rattle.quantity.specs.Rounding.{up, down, clamp}
 use Rattle.standard.specs.Bars.{areaOf}
 use Rattle.standard.specs.Concrete.{concreteOf}
@@ -11,7 +11,6 @@ use Rattle.standard.specs.Spacing.{spacingLimit}
 use Rattle.standard.specs.Steel.{steelOf, fyvOf}
 use Rattle.outcome.specs.declared.Check.the-variants.{Passed, Shear, LinkSpacing, AxialForce, Lap}
 use Rattle.outcome.specs.declared.Figure.the-variants.{Reached, Unreached}
-use Rattle.outcome.specs.declared.Outcome.{Outcome}
 use Rattle.outcome.specs.Outcome.{outcome}
 use Rattle.member.specs.Member.{Member, beam, column, mesh}
 use Rattle.member.specs.Sums.{area, sumD, sumE, groupArea, groupDiameters, groupSquares}

@@ -2,4 +2,3 @@ pub mod Stability
 pub mod Bounds
 pub mod Exact
 pub mod Safe
-pub mod Examples

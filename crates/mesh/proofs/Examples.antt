@@ -5,9 +5,9 @@ use Rattle.quantity.specs.Rounding.{up}
 use Rattle.standard.specs.Mesh.{multiple}
 use Rattle.member.specs.Member.{Mesh}
 use Rattle.outcome.specs.Outcome.{outcome}
-use Rattle.outcome.specs.declared.Check.the-variants.{Passed, Anchorage, Lap}
+use Rattle.outcome.specs.declared.Check.the-variants.{Anchorage}
 use Rattle.outcome.specs.declared.Figure.the-variants.{Reached, Unreached}
-use Rattle.mesh.specs.Steps.{basicLength, anchorageLength, tensionLap, requiredLap, lapLength, lapOutcome, meshOutcome}
+use Rattle.mesh.specs.Steps.{basicLength, anchorageLength, meshOutcome}
 
 mesh₃ : ℕ → ℕ → Mesh
 mesh₃ anchorage lap =
@@ -24,14 +24,6 @@ mesh₃ anchorage lap =
       anchorage = anchorage;
       lap = lap;
     }
-
-passes : meshOutcome (mesh₃ 270 342) ≡ outcome Passed (Reached 263) (Reached 342) Unreached Unreached
-unfolding mesh₃ meshOutcome lapOutcome anchorageLength lapLength requiredLap tensionLap basicLength multiple up
-passes = refl
-
-lap-fails : meshOutcome (mesh₃ 270 341) ≡ outcome Lap (Reached 263) (Reached 342) Unreached Unreached
-unfolding mesh₃ meshOutcome lapOutcome anchorageLength lapLength requiredLap tensionLap basicLength multiple up
-lap-fails = refl
 
 anchorage-fails : meshOutcome (mesh₃ 262 341) ≡ outcome Anchorage (Reached 263) Unreached Unreached Unreached
 unfolding mesh₃ meshOutcome anchorageLength basicLength multiple up
