@@ -1,5 +1,4 @@
 pub mod Text
-pub mod Names
 pub mod Said
 pub mod Length
 mod Examples

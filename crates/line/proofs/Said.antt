@@ -14,7 +14,7 @@ use Rattle.outcome.specs.declared.Outcome.{Outcome}
 use Rattle.outcome.specs.Outcome.{nameOf}
 use Rattle.line.specs.Line.{figureWord, lineWords, headWords, refusalWords, reportWords, lineText}
 use Rattle.line.specs.Said.{Said, figureSaid, saidBy}
-use Rattle.line.proofs.Names.{name-graphic}
+use Rattle.name.proofs.Names.{name-graphic}
 
 -- ---- No word has a blank or a newline
 

@@ -1,50 +1,17 @@
 // The printed lines: a report's first line, a member's line, a refusal.
-use outcome::Check;
+use name::name_of;
 use outcome::Figure;
 use outcome::Outcome;
 use text::Word;
 use text::put_byte;
 use text::put_decimal;
 use text::put_word;
+use text::word_of;
 ghost use mathlib.Core.Path.{_≡_};
 ghost use mathlib.Core.List.{_∷_, _++_, []};
-ghost use lib.ListN.{take};
 ghost use Rattle.text.specs.Text.{decimal, wordText};
 ghost use Rattle.text.specs.Put.{Put};
-ghost use Rattle.outcome.specs.Outcome.{nameOf};
 ghost use Rattle.line.specs.Line.{figureWord, lineWords, headWords, refusalWords, lineText};
-
-// The word of the first n bytes of b.
-fn word(n: usize, b: [u8; 8]) -> Word
-    ensures { λ r. ⌜ wordText r ≡ take n b ⌝ }
-{
-    Word { n, b }
-}
-
-// The printed word of a check.
-pub fn name_of(c: Check) -> Word
-    ensures { λ r. ⌜ wordText r ≡ nameOf c ⌝ }
-{
-    match c {
-        Check::Passed => word(2, *b"OK      "),
-        Check::LeastSteel => word(5, *b"6.3.1   "),
-        Check::CompressionDepth => word(7, *b"4.2.2-3 "),
-        Check::Bending => word(5, *b"4.2.2   "),
-        Check::ShallowBending => word(5, *b"4.2.3   "),
-        Check::Shear => word(5, *b"4.3.3   "),
-        Check::LinkSpacing => word(6, *b"5.5.6s  "),
-        Check::LeastLinks => word(6, *b"5.5.6r  "),
-        Check::ServiceStress => word(5, *b"4.4.1   "),
-        Check::CrackWidth => word(5, *b"4.4.2   "),
-        Check::Deflection => word(5, *b"4.5.1   "),
-        Check::MostSteel => word(5, *b"5.6.1   "),
-        Check::ColumnLinks => word(5, *b"5.6.2   "),
-        Check::Slenderness => word(6, *b"4.2.4s  "),
-        Check::AxialForce => word(5, *b"4.2.4   "),
-        Check::Anchorage => word(5, *b"5.2.5   "),
-        Check::Lap => word(5, *b"5.3.7   "),
-    }
-}
 
 // The word `w` and the separator after it.
 fn put_label(out: &mut [u8], at: usize, w: Word, separator: u8) -> usize
@@ -96,7 +63,7 @@ pub fn put_line(out: &mut [u8], at: usize, mark: u32, o: Outcome) -> usize
 pub fn put_head(out: &mut [u8], at: usize, n: u32) -> usize
     ensures { λ r. ⌜ Put (now (out .entry)) at (lineText (headWords n)) (now (out .exit)) r ⌝ }
 {
-    let p = put_label(out, at, word(7, *b"members "), b' ');
+    let p = put_label(out, at, word_of(7, *b"members "), b' ');
     put_number(out, p, n as u64, b'\n')
 }
 
@@ -104,8 +71,8 @@ pub fn put_head(out: &mut [u8], at: usize, n: u32) -> usize
 pub fn put_refusal(out: &mut [u8], at: usize, question: u32, member: u32) -> usize
     ensures { λ r. ⌜ Put (now (out .entry)) at (lineText (refusalWords question member)) (now (out .exit)) r ⌝ }
 {
-    let p = put_label(out, at, word(7, *b"refused "), b' ');
+    let p = put_label(out, at, word_of(7, *b"refused "), b' ');
     let q = put_number(out, p, question as u64, b' ');
-    let s = put_label(out, q, word(6, *b"member  "), b' ');
+    let s = put_label(out, q, word_of(6, *b"member  "), b' ');
     put_number(out, s, member as u64, b'\n')
 }

@@ -16,6 +16,13 @@ pub struct Word {
     pub b: [u8; 8],
 }
 
+// The word of the first n bytes of b.
+pub fn word_of(n: usize, b: [u8; 8]) -> Word
+    ensures { λ r. ⌜ wordText r ≡ take n b ⌝ }
+{
+    Word { n, b }
+}
+
 // The position after `at`; it stays at the largest one.
 fn after(at: usize) -> usize
     ensures { λ r. ⌜ r ≡ advance at 1 ⌝ }

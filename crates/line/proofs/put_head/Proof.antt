@@ -4,8 +4,8 @@ use borrow.Author.Needs.{needs}
 use Rattle.line.proofs.put_head.Statement.{statement}
 use Rattle.line.proofs.put_head.Tie as tie
 
-word-requires : tie.Need-word-requires
-word-requires c κs = search needs
+word-of-requires : tie.Need-word-of-requires
+word-of-requires c κs = search needs
 
 put-label-requires : tie.Need-put-label-requires
 put-label-requires c κs = search needs
@@ -20,8 +20,8 @@ returns : tie.Need-returns
 returns c =
     let n = c .before .before in
     let m = n .before .before .before .before in
-    put-more _ _ _ (rw (m .before .word .ensures) at (m .put-label .ensures)) (put-end _ (n .put-number .ensures))
+    put-more _ _ _ (rw (m .before .word-of .ensures) at (m .put-label .ensures)) (put-end _ (n .put-number .ensures))
 
 pub put-head-spec : {M : Type 1} → statement M
 put-head-spec =
-    tie.close (tie.spec word-requires put-label-requires put-number-requires same-length returns)
+    tie.close (tie.spec word-of-requires put-label-requires put-number-requires same-length returns)

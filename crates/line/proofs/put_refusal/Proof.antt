@@ -4,8 +4,8 @@ use borrow.Author.Needs.{needs}
 use Rattle.line.proofs.put_refusal.Statement.{statement}
 use Rattle.line.proofs.put_refusal.Tie as tie
 
-word-requires : tie.Need-word-requires
-word-requires c κs = search needs
+word-of-requires : tie.Need-word-of-requires
+word-of-requires c κs = search needs
 
 put-label-requires : tie.Need-put-label-requires
 put-label-requires c κs = search needs
@@ -13,8 +13,8 @@ put-label-requires c κs = search needs
 put-number-requires : tie.Need-put-number-requires
 put-number-requires c κs = search needs
 
-word-requires-2 : tie.Need-word-requires-2
-word-requires-2 c κs = search needs
+word-of-requires-2 : tie.Need-word-of-requires-2
+word-of-requires-2 c κs = search needs
 
 put-label-requires-2 : tie.Need-put-label-requires-2
 put-label-requires-2 c κs = search needs
@@ -31,18 +31,18 @@ returns c =
     let w = m .before .before .before .before in
     let q = w .before .before .before .before .before .before .before in
     let r = q .before .before .before .before in
-    put-more _ _ _ (rw (r .before .word .ensures) at (r .put-label .ensures))
+    put-more _ _ _ (rw (r .before .word-of .ensures) at (r .put-label .ensures))
     (put-more _ _ _ (q .put-number .ensures)
-    (put-more _ _ _ (rw (w .before .word2 .ensures) at (w .put-label2 .ensures)) (put-end _ (m .put-number2 .ensures))))
+    (put-more _ _ _ (rw (w .before .word-of2 .ensures) at (w .put-label2 .ensures)) (put-end _ (m .put-number2 .ensures))))
 
 pub put-refusal-spec : {M : Type 1} → statement M
 put-refusal-spec =
     tie.close
     (tie.spec
-    word-requires
+    word-of-requires
     put-label-requires
     put-number-requires
-    word-requires-2
+    word-of-requires-2
     put-label-requires-2
     put-number-requires-2
     same-length
