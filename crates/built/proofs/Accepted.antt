@@ -16,10 +16,11 @@ use Rattle.standard.specs.Concrete.{concretes}
 use Rattle.standard.specs.Steel.{steels, linkSteels}
 use Rattle.question.specs.declared.Question.{Question}
 use Rattle.question.specs.declared.Question.the-variants.{Mark, Kind, Field, Relation, Bars, Ratio}
-use Rattle.member.specs.declared.Group.{Group}
+use Rattle.bars.specs.declared.Group.{Group}
 use Rattle.member.specs.Member.{Beam, Column, h₀}
-use Rattle.member.specs.Sums.{barCount, area}
-use Rattle.member.specs.Accepted.{AcceptedMark, AcceptedMember, BarFrom, AcceptedGroup, AcceptedGroups, BeamInRange, AcceptedBeam, AcceptedColumn, AcceptedMesh}
+use Rattle.bars.specs.Sums.{barCount, area}
+use Rattle.bars.specs.Accepted.{BarFrom, AcceptedGroup, AcceptedGroups}
+use Rattle.member.specs.Accepted.{AcceptedMark, AcceptedMember, BeamInRange, AcceptedBeam, AcceptedColumn, AcceptedMesh}
 use Rattle.member.specs.Questions.{beamRelation, beamBars, beamRatio, columnRelation, columnBars, meshRelation}
 use Rattle.member.proofs.Questions.{both-true, Related, related, few-bars, ratio, column-order, column-few-bars, apart-alone}
 use Rattle.field.specs.declared.Domain.{Domain}

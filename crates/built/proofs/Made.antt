@@ -3,7 +3,7 @@ use Prim.Native.Nat.{ℕ}
 use mathlib.Core.Path.{_≡_}
 use mathlib.Core.List.{List}
 use lib.ListN.{take}
-use Rattle.member.specs.declared.Group.{Group}
+use Rattle.bars.specs.declared.Group.{Group}
 use Rattle.member.specs.Member.{Beam}
 
 pub beam-made : {b₁ b₂ h₁ h₂ bf₁ bf₂ hf₁ hf₂ aₛ₁ aₛ₂ a₁ a₂ concrete₁ concrete₂ steel₁ steel₂ link₁ link₂ legs₁ legs₂ s₁ s₂ linkSteel₁ linkSteel₂ c₁ c₂ l₀₁ l₀₂ M₁ M₂ Mq₁ Mq₂ Vd₁ Vd₂ environment₁ environment₂ strict₁ strict₂ n₁ n₂ m₁ m₂ : ℕ} {t₁ t₂ u₁ u₂ : List Group}

@@ -4,7 +4,7 @@ use mathlib.Core.List.{List, [], _∷_}
 use lib.Dec.{eqb}
 use lib.ListN.{getD, take}
 use Rattle.quantity.specs.Choice.{if_then_else_}
-use Rattle.member.specs.declared.Group.{Group}
+use Rattle.bars.specs.declared.Group.{Group}
 use Rattle.member.specs.Member.{Beam, Column, Mesh, Member, beam, column, mesh}
 use Rattle.built.specs.declared.Built.{Built}
 

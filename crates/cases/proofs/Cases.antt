@@ -13,7 +13,7 @@ use Rattle.outcome.specs.declared.Check.the-variants.{Passed, Shear, LinkSpacin
 use Rattle.outcome.specs.declared.Figure.the-variants.{Reached, Unreached}
 use Rattle.outcome.specs.Outcome.{outcome}
 use Rattle.member.specs.Member.{Member, beam, column, mesh}
-use Rattle.member.specs.Sums.{area, sumD, sumE, groupArea, groupDiameters, groupSquares}
+use Rattle.bars.specs.Sums.{area, sumD, sumE, groupArea, groupDiameters, groupSquares}
 use Rattle.section.specs.Section.{sectionOf}
 use Rattle.bending.specs.Steps.{leastSteel, compressionDepth, isDeep, deepCapacity, shallowCapacity, bendingCapacity}
 use Rattle.shear.specs.Steps.{concreteShear, linkShear, shearCapacity, shearAbove, linkSpacing, leastLinks}

@@ -6,7 +6,7 @@ use native.Mathlib.Nat.{mul-le-mul}
 use borrow.Author.Tests.{leb-true}
 use Rattle.member.specs.Member.{Column}
 use Rattle.member.specs.Accepted.{AcceptedColumn}
-use Rattle.member.proofs.Groups.{sums}
+use Rattle.bars.proofs.Groups.{sums}
 use Rattle.column.specs.Steps.{grossArea, steelArea, steelFits, slendernessFits}
 
 pub gross-most : (x : Column) → AcceptedColumn x → grossArea x ≤ 2250000

@@ -17,7 +17,7 @@ use Rattle.standard.specs.Steel.{steelOf}
 use Rattle.standard.proofs.Materials.{usable-concrete, usable-steel}
 use Rattle.member.specs.Member.{Column}
 use Rattle.member.specs.Accepted.{AcceptedColumn}
-use Rattle.member.specs.Sums.{area, largest, smallest}
+use Rattle.bars.specs.Sums.{area, largest, smallest}
 use Rattle.outcome.specs.Outcome.{outcome, stopped}
 use Rattle.outcome.specs.declared.Check.{Check}
 use Rattle.outcome.specs.declared.Check.the-variants.{Passed, MostSteel, ColumnLinks, Slenderness, AxialForce}

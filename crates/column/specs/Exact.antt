@@ -12,7 +12,7 @@ use Rattle.standard.specs.Concrete.{concreteOf}
 use Rattle.standard.specs.Steel.{steelOf}
 use Rattle.standard.specs.Slenderness.{point}
 use Rattle.member.specs.Member.{Column}
-use Rattle.member.specs.Sums.{area, largest, smallest}
+use Rattle.bars.specs.Sums.{area, largest, smallest}
 use Rattle.outcome.specs.Safe.{empty, capacity, Safe}
 use Rattle.outcome.specs.declared.Outcome.{Outcome}
 use Rattle.outcome.specs.declared.Check.{Check}

@@ -9,7 +9,7 @@ use Rattle.standard.specs.declared.Concrete.{Concrete}
 use Rattle.standard.specs.declared.Steel.{Steel}
 use Rattle.standard.specs.Slenderness.{point}
 use Rattle.member.specs.Member.{Column}
-use Rattle.member.specs.Sums.{area, largest, smallest}
+use Rattle.bars.specs.Sums.{area, largest, smallest}
 use Rattle.outcome.specs.Outcome.{outcome, stopped}
 use Rattle.outcome.specs.declared.Outcome.{Outcome}
 use Rattle.outcome.specs.declared.Check.the-variants.{Passed, MostSteel, ColumnLinks, Slenderness, AxialForce}

@@ -8,9 +8,9 @@ use lib.Dec.{eqb, leb, ltb}
 use lib.ListN.{length, take}
 use borrow.Author.Tests.{leb-true, ltb-true, eqb-true, eq-eqb, ne-eqb}
 use Rattle.quantity.proofs.Choice.{if-case}
-use Rattle.member.specs.declared.Group.{Group}
+use Rattle.bars.specs.declared.Group.{Group}
 use Rattle.member.specs.Member.{Beam, Column, Mesh, h₀}
-use Rattle.member.specs.Sums.{barCount, area}
+use Rattle.bars.specs.Sums.{barCount, area}
 use Rattle.member.specs.Questions.{
   flangeFits,
   compressionFits,

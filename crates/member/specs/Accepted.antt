@@ -4,28 +4,12 @@ use mathlib.Core.Path.{_≡_}
 use mathlib.Core.Bool.{true}
 use mathlib.Core.List.{List, [], _∷_}
 use lib.ListN.{length}
-use Rattle.standard.specs.Bars.{areaOf}
 use Rattle.standard.specs.Table.{listed}
 use Rattle.standard.specs.Concrete.{concretes}
 use Rattle.standard.specs.Steel.{steels, linkSteels}
-use Rattle.member.specs.declared.Group.{Group}
+use Rattle.bars.specs.Accepted.{BarFrom, AcceptedGroups}
 use Rattle.member.specs.Member.{Beam, Column, Mesh, Member, beam, column, mesh, h₀}
-use Rattle.member.specs.Sums.{barCount, area}
-
--- a diameter of the table from lo to hi
-pub record BarFrom (lo hi d : ℕ) : Type 0 where
-  pub least : lo ≤ d
-  pub most : d ≤ hi
-  pub listed : 0 < areaOf d
-
-pub record AcceptedGroup (g : Group) : Type 0 where
-  pub diameter : BarFrom 6 50 (g .diameter)
-  pub some : 1 ≤ g .bars
-  pub most : g .bars ≤ 20
-
-abbrev pub AcceptedGroups : List Group → Type 0
-AcceptedGroups [] = Unit {0}
-AcceptedGroups (g ∷ gs) = AcceptedGroup g × AcceptedGroups gs
+use Rattle.bars.specs.Sums.{barCount, area}
 
 -- Of the ranges of question 7 those that 8 to 10 are worked with.
 pub record BeamInRange (x : Beam) : Type 0 where

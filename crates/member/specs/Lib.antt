@@ -1,4 +1,3 @@
 pub mod Member
-pub mod Sums
 pub mod Questions
 pub mod Accepted

@@ -3,7 +3,7 @@
 use Prim.Native.Nat.{ℕ, _-_}
 use mathlib.Core.List.{List}
 use lib.ListN.{take}
-use Rattle.member.specs.declared.Group.{Group}
+use Rattle.bars.specs.declared.Group.{Group}
 use Rattle.member.specs.declared.Beam as code-beam
 use Rattle.member.specs.declared.Column as code-column
 use Rattle.member.specs.declared.Mesh as code-mesh

@@ -5,7 +5,7 @@ use lib.Dec.{leb, ltb, eqb}
 use lib.ListN.{length}
 use Rattle.quantity.specs.Choice.{if_then_else_}
 use Rattle.member.specs.Member.{Beam, Column, Mesh, h₀}
-use Rattle.member.specs.Sums.{barCount, area}
+use Rattle.bars.specs.Sums.{barCount, area}
 
 -- 8: bf ≥ b; hf = 0 if bf = b, else 1 ≤ hf ≤ h/2
 unfoldable pub flangeFits : Beam → Bool

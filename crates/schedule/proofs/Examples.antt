@@ -7,7 +7,7 @@ use Rattle.question.specs.declared.Question.the-variants.{NumberEnds, NumberFor
 use Rattle.standard.specs.Bars.{areaOf}
 use Rattle.number.specs.Number.{numberAt, groupsAt, lastGroup}
 use Rattle.member.specs.Member.{Member, beam, column, mesh}
-use Rattle.member.specs.Sums.{barCount, area, groupArea}
+use Rattle.bars.specs.Sums.{barCount, area, groupArea}
 use Rattle.member.specs.Questions.{flangeFits, compressionFits, depthFits, beamRelation, beamBars, beamRatio, columnRelation, columnBars, meshRelation}
 use Rattle.field.specs.Domain.{holds, asked}
 use Rattle.field.specs.Fields.{fieldsOf, known}

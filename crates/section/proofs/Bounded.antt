@@ -8,9 +8,9 @@ use Rattle.standard.specs.Bars.{areaOf}
 use Rattle.standard.proofs.Bars.{link-area-most}
 use Rattle.standard.proofs.Materials.{usable-concrete, usable-steel, usable-links}
 use Rattle.member.specs.Member.{Beam}
-use Rattle.member.specs.Sums.{area}
+use Rattle.bars.specs.Sums.{area}
 use Rattle.member.specs.Accepted.{AcceptedBeam}
-use Rattle.member.proofs.Groups.{sums, some-bars, bars-least, area-least-by-bars}
+use Rattle.bars.proofs.Groups.{sums, some-bars, bars-least, area-least-by-bars}
 use Rattle.member.proofs.Accepted.{depth-least}
 use Rattle.section.specs.Section.{sectionOf}
 use Rattle.section.specs.Bounded.{Bounded}

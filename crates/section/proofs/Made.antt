@@ -10,9 +10,9 @@ use Rattle.standard.specs.declared.Steel.{Steel}
 use Rattle.standard.specs.Concrete.{concreteOf}
 use Rattle.standard.specs.Steel.{steelOf, fyvOf}
 use Rattle.member.specs.declared.Beam.{Beam}
-use Rattle.member.specs.declared.Totals.{Totals}
+use Rattle.bars.specs.declared.Totals.{Totals}
 use Rattle.member.specs.Member.{beamOf, h₀}
-use Rattle.member.specs.Sums.{TotalsOf, area}
+use Rattle.bars.specs.Sums.{TotalsOf, area}
 use Rattle.section.specs.declared.Section.{Section}
 use Rattle.section.specs.Section.{sectionOf}
 

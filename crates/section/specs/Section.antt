@@ -9,7 +9,7 @@ use Rattle.standard.specs.Bars.{areaOf}
 use Rattle.standard.specs.Concrete.{concreteOf}
 use Rattle.standard.specs.Steel.{steelOf, fyvOf}
 use Rattle.member.specs.Member.{Beam}
-use Rattle.member.specs.Sums.{area, sumD, sumE}
+use Rattle.bars.specs.Sums.{area, sumD, sumE}
 use Rattle.section.specs.declared.Section.{Section}
 
 -- lengths, mm; h0 is the effective depth

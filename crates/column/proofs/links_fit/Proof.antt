@@ -1,7 +1,7 @@
 -- `column::links_fit` meets its contract.
 use native.Mathlib.Omega.{arith}
 use Rattle.member.specs.Member.{columnOf}
-use Rattle.member.proofs.Groups.{smallest-most}
+use Rattle.bars.proofs.Groups.{smallest-most}
 use Rattle.column.specs.Steps.{linksFit}
 use borrow.Author.Needs.{needs}
 use Rattle.column.proofs.links_fit.Statement.{statement}

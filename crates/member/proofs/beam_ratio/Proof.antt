@@ -3,7 +3,7 @@ use Rattle.member.proofs.Questions.{few-bars}
 use Rattle.member.specs.Member.{beamOf}
 use Prim.Native.Nat.{_*_}
 use native.Mathlib.Nat.{mul-le-mul}
-use Rattle.member.proofs.Groups.{area-most-by-bars}
+use Rattle.bars.proofs.Groups.{area-most-by-bars}
 use native.Mathlib.Omega.{arith}
 use Rattle.member.specs.Questions.{beamRatio}
 use borrow.Author.Needs.{needs}

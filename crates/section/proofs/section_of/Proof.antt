@@ -5,8 +5,8 @@ use Rattle.section.proofs.section_of.Tie as tie
 use Rattle.section.proofs.section_of.Reads as reads
 use Rattle.section.proofs.section_of.Lts as lts
 use Rattle.member.proofs.effective_depth.Reads as effective-depth-reads
-use Rattle.member.proofs.steel_area.Reads as steel-area-reads
-use Rattle.member.proofs.totals_of.Reads as totals-of-reads
+use Rattle.bars.proofs.steel_area.Reads as steel-area-reads
+use Rattle.bars.proofs.totals_of.Reads as totals-of-reads
 use Rattle.section.proofs.flange_area.Reads as flange-area-reads
 use Rattle.section.proofs.link_area.Reads as link-area-reads
 use Rattle.standard.proofs.concrete_of.Reads as concrete-of-reads

@@ -1,9 +1,9 @@
--- `member::group_diameters` meets its contract.
-use Rattle.member.specs.Sums.{groupDiameters}
-use Rattle.member.proofs.Groups.{fits}
+-- `bars::group_diameters` meets its contract.
+use Rattle.bars.specs.Sums.{groupDiameters}
+use Rattle.bars.proofs.Groups.{fits}
 use borrow.Author.Needs.{needs}
-use Rattle.member.proofs.group_diameters.Statement.{statement}
-use Rattle.member.proofs.group_diameters.Tie as tie
+use Rattle.bars.proofs.group_diameters.Statement.{statement}
+use Rattle.bars.proofs.group_diameters.Tie as tie
 
 wide-requires : tie.Need-wide-requires
 wide-requires c κs = search needs

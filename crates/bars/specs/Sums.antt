@@ -3,8 +3,8 @@ use Prim.Native.Nat.{ℕ, _+_, _*_, _^_, _<_, min, max}
 use mathlib.Core.Path.{_≡_}
 use mathlib.Core.List.{List, [], _∷_}
 use Rattle.standard.specs.Bars.{areaOf}
-use Rattle.member.specs.declared.Group.{Group}
-use Rattle.member.specs.declared.Totals.{Totals}
+use Rattle.bars.specs.declared.Group.{Group}
+use Rattle.bars.specs.declared.Totals.{Totals}
 
 abbrev pub sumOver : (Group → ℕ) → List Group → ℕ
 sumOver f [] = 0

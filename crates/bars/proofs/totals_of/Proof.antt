@@ -1,12 +1,12 @@
--- `member::totals_of` meets its contract.
-use Rattle.member.proofs.Groups.{totals-none, totals-more, turn-requires, all-summed}
+-- `bars::totals_of` meets its contract.
+use Rattle.bars.proofs.Groups.{totals-none, totals-more, turn-requires, all-summed}
 use Prim.Native.Nat.{_-_, _≤_, min}
 use mathlib.Core.Path.{_≡_}
 use lib.ListN.{take}
 use borrow.Author.Needs.{needs}
-use Rattle.member.specs.Sums.{TotalsOf}
-use Rattle.member.proofs.totals_of.Statement.{statement}
-use Rattle.member.proofs.totals_of.Tie as tie
+use Rattle.bars.specs.Sums.{TotalsOf}
+use Rattle.bars.proofs.totals_of.Statement.{statement}
+use Rattle.bars.proofs.totals_of.Tie as tie
 
 abbrev Inv-loop : tie.InvT-loop
 Inv-loop count groups n t₀ i₀ t i = (i ≤ n) × (n ≡ min count 4) × TotalsOf (take i groups) t

@@ -1,11 +1,11 @@
--- `member::group_squares` meets its contract.
+-- `bars::group_squares` meets its contract.
 use native.Mathlib.Omega.{arith}
 use native.Mathlib.Nat.{mul-le-mul}
-use Rattle.member.specs.Sums.{groupSquares}
-use Rattle.member.proofs.Groups.{fits}
+use Rattle.bars.specs.Sums.{groupSquares}
+use Rattle.bars.proofs.Groups.{fits}
 use borrow.Author.Needs.{needs}
-use Rattle.member.proofs.group_squares.Statement.{statement}
-use Rattle.member.proofs.group_squares.Tie as tie
+use Rattle.bars.proofs.group_squares.Statement.{statement}
+use Rattle.bars.proofs.group_squares.Tie as tie
 
 wide-requires : tie.Need-wide-requires
 wide-requires c κs = search needs

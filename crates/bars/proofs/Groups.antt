@@ -9,10 +9,10 @@ use native.Mathlib.Decide.{decLe}
 use lib.ListN.{length, take, getD, length-take}
 use lib.Seq.{take-take, take-all, getD-take}
 use Rattle.standard.proofs.Bars.{area-most}
-use Rattle.member.specs.declared.Group.{Group}
-use Rattle.member.specs.declared.Totals.{Totals}
-use Rattle.member.specs.Sums.{sumOver, barsOf, groupArea, groupDiameters, groupSquares, barCount, area, sumD, sumE, largest, smallest, smallestUpTo, added, TotalsOf, TotalsFit}
-use Rattle.member.specs.Accepted.{AcceptedGroup, AcceptedGroups}
+use Rattle.bars.specs.declared.Group.{Group}
+use Rattle.bars.specs.declared.Totals.{Totals}
+use Rattle.bars.specs.Sums.{sumOver, barsOf, groupArea, groupDiameters, groupSquares, barCount, area, sumD, sumE, largest, smallest, smallestUpTo, added, TotalsOf, TotalsFit}
+use Rattle.bars.specs.Accepted.{AcceptedGroup, AcceptedGroups}
 
 -- ---- One group more.
 

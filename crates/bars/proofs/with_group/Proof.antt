@@ -1,9 +1,9 @@
--- `member::with_group` meets its contract.
+-- `bars::with_group` meets its contract.
 use native.Mathlib.Omega.{arith}
-use Rattle.member.proofs.Groups.{area-by-bars, diameters-by-bars, squares-by-diameters}
+use Rattle.bars.proofs.Groups.{area-by-bars, diameters-by-bars, squares-by-diameters}
 use borrow.Author.Needs.{needs}
-use Rattle.member.proofs.with_group.Statement.{statement}
-use Rattle.member.proofs.with_group.Tie as tie
+use Rattle.bars.proofs.with_group.Statement.{statement}
+use Rattle.bars.proofs.with_group.Tie as tie
 
 wide-requires : tie.Need-wide-requires
 wide-requires c κs = search needs

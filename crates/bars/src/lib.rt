@@ -1,0 +1,137 @@
+// Groups of bars: their number, area and diameters summed.
+ghost use mathlib.Core.Path.{_≡_};
+ghost use Prim.Native.Nat.{min};
+ghost use lib.ListN.{take};
+ghost use Rattle.bars.specs.Sums.{barCount, area, sumD, sumE, largest, smallest, groupArea, groupDiameters, groupSquares, added, TotalsFit, TotalsOf};
+ghost use Rattle.bars.specs.Accepted.{AcceptedGroup, AcceptedGroups};
+use quantity::larger;
+use quantity::smaller;
+use quantity::wide;
+use standard::area_of;
+
+// Bars of one diameter (mm).
+#[repr(C)]
+pub struct Group {
+    pub diameter: u32,
+    pub bars: u32,
+}
+
+// Over groups of bars: their number, their area (tenths of mm²), n·d, n·d², and the largest and the smallest diameter.
+pub struct Totals {
+    pub bars: u64,
+    pub area: u64,
+    pub diameters: u64,
+    pub squares: u64,
+    pub largest: u64,
+    pub smallest: u64,
+}
+
+fn group_area(g: Group) -> u64
+    ensures { λ r. ⌜ r ≡ groupArea g ⌝ }
+{
+    wide(g.bars) * wide(area_of(g.diameter))
+}
+
+fn group_diameters(g: Group) -> u64
+    ensures { λ r. ⌜ r ≡ groupDiameters g ⌝ }
+{
+    wide(g.bars) * wide(g.diameter)
+}
+
+fn group_squares(g: Group) -> u64
+    requires { ⌜ AcceptedGroup g ⌝ }
+    ensures { λ r. ⌜ r ≡ groupSquares g ⌝ }
+{
+    wide(g.bars) * (wide(g.diameter) * wide(g.diameter))
+}
+
+// The totals with one group more.
+fn with_group(t: Totals, g: Group) -> Totals
+    requires { ⌜ TotalsFit t × AcceptedGroup g ⌝ }
+    ensures { λ r. ⌜ r ≡ added t g ⌝ }
+{
+    Totals {
+        bars: t.bars + wide(g.bars),
+        area: t.area + group_area(g),
+        diameters: t.diameters + group_diameters(g),
+        squares: t.squares + group_squares(g),
+        largest: larger(t.largest, wide(g.diameter)),
+        smallest: smaller(t.smallest, wide(g.diameter)),
+    }
+}
+
+fn at_most_four(count: usize) -> usize
+    ensures { λ r. ⌜ r ≡ min count 4 ⌝ }
+{
+    if count < 4 { count } else { 4 }
+}
+
+// The totals of the first `count` groups.
+pub fn totals_of(groups: [Group; 4], count: usize) -> Totals
+    requires { ⌜ AcceptedGroups (take count groups) ⌝ }
+    ensures { λ r. ⌜ TotalsOf (take count groups) r ⌝ }
+{
+    let n = at_most_four(count);
+    let mut t = Totals {
+        bars: 0,
+        area: 0,
+        diameters: 0,
+        squares: 0,
+        largest: 0,
+        smallest: 50,
+    };
+    let mut i: usize = 0;
+    while i < n {
+        t = with_group(t, groups[i]);
+        i += 1;
+    }
+    t
+}
+
+// The number of bars.
+pub fn bar_count(groups: [Group; 4], count: usize) -> u64
+    requires { ⌜ AcceptedGroups (take count groups) ⌝ }
+    ensures { λ r. ⌜ r ≡ barCount (take count groups) ⌝ }
+{
+    totals_of(groups, count).bars
+}
+
+// S or S', in tenths of mm².
+pub fn steel_area(groups: [Group; 4], count: usize) -> u64
+    requires { ⌜ AcceptedGroups (take count groups) ⌝ }
+    ensures { λ r. ⌜ r ≡ area (take count groups) ⌝ }
+{
+    totals_of(groups, count).area
+}
+
+// D, the sum of n·d.
+pub fn sum_diameters(groups: [Group; 4], count: usize) -> u64
+    requires { ⌜ AcceptedGroups (take count groups) ⌝ }
+    ensures { λ r. ⌜ r ≡ sumD (take count groups) ⌝ }
+{
+    totals_of(groups, count).diameters
+}
+
+// E, the sum of n·d².
+pub fn sum_squares(groups: [Group; 4], count: usize) -> u64
+    requires { ⌜ AcceptedGroups (take count groups) ⌝ }
+    ensures { λ r. ⌜ r ≡ sumE (take count groups) ⌝ }
+{
+    totals_of(groups, count).squares
+}
+
+// The largest diameter, 0 without groups.
+pub fn largest_diameter(groups: [Group; 4], count: usize) -> u64
+    requires { ⌜ AcceptedGroups (take count groups) ⌝ }
+    ensures { λ r. ⌜ r ≡ largest (take count groups) ⌝ }
+{
+    totals_of(groups, count).largest
+}
+
+// The smallest diameter, 50 without groups.
+pub fn smallest_diameter(groups: [Group; 4], count: usize) -> u64
+    requires { ⌜ AcceptedGroups (take count groups) ⌝ }
+    ensures { λ r. ⌜ r ≡ smallest (take count groups) ⌝ }
+{
+    totals_of(groups, count).smallest
+}
