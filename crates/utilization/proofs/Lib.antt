@@ -1,0 +1,4 @@
+pub mod Division
+pub mod Figures
+pub mod Utilized
+pub mod Largest
