@@ -4,7 +4,7 @@ use mathlib.Core.Path.{_≡_, refl, sym, subst, _∙_}
 use mathlib.Core.Bool.{Bool, true, false, true≢false}
 use native.Mathlib.Nat.{mul-one, mul-comm, mul-left-comm, mul-pos}
 use native.Mathlib.Omega.{arith}
-use lib.Dec.{T, eqb, leb, ltb→lt, lit<}
+use lib.Dec.{T, leb, ltb→lt, lit<}
 use lib.IntN.{pos, negsuc}
 use lib.Ieee.{Float, nan, inf, fin, Format, binary64, low, up, down, round, div, ofInt, le}
 use lib.Ieee.Bits.{is-true}

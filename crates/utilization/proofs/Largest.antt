@@ -13,7 +13,6 @@ use lib.Ieee.Order.{le-of-values}
 use lib.Ieee.Positive.{num, den, den-pos, through}
 use borrow.Author.Tests.{ltb-true, ltb-false}
 use Rattle.quantity.specs.Choice.{if_then_else_}
-use Rattle.quantity.proofs.Choice.{if-case}
 use Rattle.utilization.specs.declared.Ratio.{Ratio}
 use Rattle.utilization.specs.declared.Utilization.{Utilization}
 use Rattle.utilization.specs.declared.Governing.{Governing}

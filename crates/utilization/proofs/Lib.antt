@@ -2,3 +2,4 @@ pub mod Division
 pub mod Figures
 pub mod Utilized
 pub mod Largest
+pub mod Examples

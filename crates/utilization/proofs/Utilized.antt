@@ -1,11 +1,11 @@
 -- The utilizations of an accepted member are the nearest doubles, and each decides its check.
 use Prim.Native.Nat.{ℕ, _*_, _^_, _≤_, _<_}
-use mathlib.Core.Path.{_≡_, refl, sym, _∙_}
+use mathlib.Core.Path.{_≡_, refl, _∙_}
 use mathlib.Core.List.{List}
 use mathlib.Core.Bool.{Bool, true, false, false≢true}
 use native.Mathlib.Nat.{lt-of-mul-lt-mul-right, mul-le-mul-left}
 use native.Mathlib.Omega.{arith}
-use lib.Dec.{leb, eqb}
+use lib.Dec.{T, leb, eqb}
 use borrow.Author.Tests.{ne-eqb, eqb-false, leb-true, leb-false, le-leb, lt-leb}
 use Rattle.quantity.specs.Choice.{if_then_else_}
 use Rattle.quantity.specs.Rounding.{down}
@@ -32,6 +32,7 @@ use Rattle.built.specs.Verdict.{builtVerdict}
 use Rattle.built.proofs.Accepted.{accepted-built}
 use Rattle.checks.specs.Outcome.{outcomeOf}
 use Rattle.checks.proofs.Figures.{member-short}
+use Rattle.utilization.specs.declared.Ratio.{Ratio}
 use Rattle.utilization.specs.declared.Utilization.{Utilization}
 use Rattle.utilization.specs.declared.Answer.{Answer}
 use Rattle.utilization.specs.declared.Answer.the-variants as answers
@@ -50,8 +51,10 @@ use Rattle.utilization.specs.Utilization.{
   ExactFigure,
   ExactFigures,
 }
-use Rattle.utilization.specs.Utilized.{answerOf, Decides, DecidesBeam, DecidesColumn, DecidesMesh, DecidesMember, Utilized}
-use Rattle.utilization.proofs.Division.{quotient-nearest, at-most-one}
+use Rattle.utilization.specs.Governing.{ratiosOf}
+use Rattle.utilization.specs.Utilized.{answerOf, Decides, DecidesMember, Utilized}
+use Rattle.utilization.proofs.Division.{quotient-nearest, at-most-one, fair, nearest-fair}
+use Rattle.utilization.proofs.Largest.{Fair}
 use Rattle.utilization.proofs.Figures.{Is, exact-figures, beam-figures, axial-figure, mesh-figures}
 
 -- ---- Limits.
@@ -179,6 +182,48 @@ member-decides (mesh mark x) a =
       anchorage = limit-decides _ _ _ (f .anchorage) (omega (arith, a .1 .anchorage));
       lap = limit-decides _ _ _ (f .lap) (omega (arith, a .1 .lap));
     }
+
+-- ---- Those of an accepted member are finite and not negative, so that the largest of them governs (`Largest`).
+
+-- where it was reached
+abbrev FairRatio : Ratio → Type 0
+FairRatio r = r .reached ≡ true → T (fair (r .value))
+
+no-ratio-fair : FairRatio noRatio
+no-ratio-fair e = absurd (false≢true e)
+
+ratio-fair : (a b : ℕ) → a < 2 ^ 53 → FairRatio (ratio nearest a b)
+unfolding ratio
+ratio-fair a b h =
+    if-case FairRatio (eqb b 0) noRatio (record { value = nearest a b; reached = true }) (λ _. no-ratio-fair) (λ e _. nearest-fair a b h (some b e))
+
+figure-fair : (a : ℕ) (f : Figure) → a < 2 ^ 53 → FairRatio (overFigure nearest a f)
+unfolding overFigure
+figure-fair a (Reached v) h = ratio-fair a v h
+figure-fair a Unreached h = no-ratio-fair
+
+limit-fair : (f : Figure) (b : ℕ) → ExactFigure f → FairRatio (overLimit nearest f b)
+unfolding overLimit
+limit-fair (Reached v) b h = ratio-fair v b h
+limit-fair Unreached b h = no-ratio-fair
+
+nearest-member-fair : (m : Member) → AcceptedMember m → Fair (ratiosOf (utilizationOf nearest m (outcomeOf m)))
+unfolding beamUtilization columnUtilization meshUtilization
+nearest-member-fair (beam mark x) a =
+    let s = sectionOf x in
+    let t = bounded x (a .1) in
+    let e = member-exact (beam mark x) a in (
+      figure-fair (M s) _ (omega (arith, t .M-most)),
+      (figure-fair (Vd s) _ (omega (arith, t .Vd-most)), (limit-fair _ (widthLimit s) (e .third), (limit-fair _ (deflectionLimit s) (e .fourth), tt))),
+    )
+nearest-member-fair (column mark x) a =
+    (figure-fair (x .N) _ (omega (arith, a .1 .N-most)), (no-ratio-fair, (no-ratio-fair, (no-ratio-fair, tt))))
+nearest-member-fair (mesh mark x) a =
+    let e = member-exact (mesh mark x) a in
+    (limit-fair _ (x .anchorage) (e .first), (limit-fair _ (x .lap) (e .second), (no-ratio-fair, (no-ratio-fair, tt))))
+
+pub member-fair : (m : Member) → AcceptedMember m → Fair (ratiosOf (utilizationOf quotient m (outcomeOf m)))
+member-fair m a = rw (member-nearest m a) (nearest-member-fair m a)
 
 -- ---- By kind.
 

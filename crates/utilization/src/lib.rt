@@ -1,11 +1,10 @@
 // How far each check of a member is used: its demand over its figure, or its figure over its limit.
 ghost use mathlib.Core.Path.{_≡_};
-ghost use Prim.Native.Nat.{_≤_, _<_, _^_};
+ghost use Prim.Native.Nat.{_<_, _^_};
 ghost use Rattle.member.specs.Member.{columnOf, meshOf};
 ghost use Rattle.member.specs.Accepted.{AcceptedColumn, AcceptedMesh, AcceptedMember};
 ghost use Rattle.section.specs.Bounded.{Bounded};
 ghost use Rattle.built.specs.Slots.{memberOf};
-ghost use Rattle.checks.specs.Outcome.{outcomeOf};
 ghost use Rattle.utilization.specs.Utilization.{quotient, noRatio, ratio, overFigure, overLimit, four, deflectionLimit, beamUtilization, columnUtilization, meshUtilization, utilizationOf, ExactFigure, ExactFigures};
 ghost use Rattle.utilization.specs.Governing.{including, governingOf};
 ghost use Rattle.utilization.specs.Utilized.{Utilized};
@@ -59,6 +58,7 @@ pub enum Answer {
     Refused(Refusal),
 }
 
+// Whole numbers below 2^53: the casts lose nothing, and the one division rounds.
 fn divided(a: u64, b: u64) -> f64
     requires { ⌜ (a < 2 ^ 53) × (b < 2 ^ 53) ⌝ }
     ensures { λ r. ⌜ r ≡ quotient a b ⌝ }
@@ -75,6 +75,7 @@ fn no_ratio() -> Ratio
     }
 }
 
+// a over b.
 fn ratio_of(a: u64, b: u64) -> Ratio
     requires { ⌜ (a < 2 ^ 53) × (b < 2 ^ 53) ⌝ }
     ensures { λ r. ⌜ r ≡ ratio quotient a b ⌝ }
@@ -204,6 +205,7 @@ pub fn utilization_of(x: Built) -> Answer
     }
 }
 
+// One more, which counts where it was reached.
 fn include(g: Governing, reached: bool, value: f64) -> Governing
     ensures { λ r. ⌜ r ≡ including g reached value ⌝ }
 {
