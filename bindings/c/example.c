@@ -1,0 +1,57 @@
+/* Document 01's beam 1 built by a caller: its line and its utilizations. Then the schedule on standard input, reported. */
+#include <stdio.h>
+
+#include "koxaltes.h"
+
+static const koxaltes_group tension[] = {{.diameter = 20, .bars = 4}};
+static const koxaltes_group none[] = {{0, 0}};
+
+static koxaltes_member beam(void) {
+    koxaltes_member m = {.mark = 1, .kind = KOXALTES_BEAM};
+    m.fields[KOXALTES_BEAM_B] = 250;
+    m.fields[KOXALTES_BEAM_H] = 500;
+    m.fields[KOXALTES_BEAM_BF] = 250;
+    m.fields[KOXALTES_BEAM_AS] = 40;
+    m.fields[KOXALTES_BEAM_CONCRETE] = 30;
+    m.fields[KOXALTES_BEAM_STEEL] = 1;
+    m.fields[KOXALTES_BEAM_TENSION_GROUPS] = 1;
+    m.fields[KOXALTES_BEAM_LINK_DIAMETER] = 8;
+    m.fields[KOXALTES_BEAM_LEGS] = 2;
+    m.fields[KOXALTES_BEAM_LINK_SPACING] = 200;
+    m.fields[KOXALTES_BEAM_LINK_STEEL] = 1;
+    m.fields[KOXALTES_BEAM_COVER] = 30;
+    m.fields[KOXALTES_BEAM_SPAN] = 6000;
+    m.fields[KOXALTES_BEAM_M] = 150000;
+    m.fields[KOXALTES_BEAM_MQ] = 90000;
+    m.fields[KOXALTES_BEAM_V] = 120000;
+    m.fields[KOXALTES_BEAM_ENVIRONMENT] = 1;
+    return m;
+}
+
+static void print(koxaltes_answer a, const uint8_t *text) {
+    if (a.question == 0) {
+        fwrite(text, 1, a.length, stdout);
+    } else {
+        printf("refused %u member %u\n", a.question, a.member);
+    }
+}
+
+static void print_utilization(koxaltes_utilization_answer a) {
+    if (a.question == 0 && a.governs) {
+        printf("moment %.3f shear %.3f width %.3f deflection %.3f governing %.3f\n", a.utilization.first,
+               a.utilization.second, a.utilization.third, a.utilization.fourth, a.governing);
+    }
+}
+
+int main(void) {
+    static uint8_t schedule[60001];
+    static uint8_t out[27555];
+    koxaltes_member m = beam();
+    print(koxaltes_member_report(m, tension, 1, none, 0, out, sizeof out), out);
+    print_utilization(koxaltes_member_utilization(m, tension, 1, none, 0));
+    m.fields[KOXALTES_BEAM_TENSION_GROUPS] = 2;
+    print(koxaltes_member_report(m, tension, 1, none, 0, out, sizeof out), out);
+    size_t length = fread(schedule, 1, sizeof schedule, stdin);
+    print(koxaltes_report(schedule, length, out, sizeof out), out);
+    return 0;
+}

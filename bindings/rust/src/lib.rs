@@ -1,0 +1,215 @@
+//! Koxaltes, a proved checker of reinforcement schedules, for Rust callers.
+//!
+//! Every function takes any input. What each yields is proved: `crates/koxaltes/src/lib.rt` has the contracts.
+
+pub mod raw;
+
+pub use raw::{Group, Member};
+
+/// The longest report, and the longest line of one member, in bytes.
+pub const LONGEST_REPORT: usize = 27_555;
+pub const LONGEST_LINE: usize = 55;
+
+/// The number of the question answered no, and the member it names.
+#[derive(Clone, Copy, Debug, PartialEq, Eq)]
+pub struct Refusal {
+    pub question: u32,
+    pub member: u32,
+}
+
+/// Beams: moment, shear, width, deflection; columns: axial force first; meshes: anchorage, lap.
+/// Each is at most 1.0 exactly where its check holds; `None` where it was not reached or its divisor is 0.
+#[derive(Clone, Copy, Debug, PartialEq)]
+pub struct Utilization {
+    pub places: [Option<f64>; 4],
+    /// The largest of them.
+    pub governing: Option<f64>,
+}
+
+/// Kind 1. Lengths in mm, moments in N·m, shear in N.
+#[derive(Clone, Copy, Debug)]
+pub struct Beam {
+    pub b: u32,
+    pub h: u32,
+    pub bf: u32,
+    pub hf: u32,
+    /// as and a': distances of the tension and the compression steel from their faces.
+    pub tension_distance: u32,
+    pub compression_distance: u32,
+    pub concrete: u32,
+    pub steel: u32,
+    pub tension_groups: u32,
+    pub compression_groups: u32,
+    pub link_diameter: u32,
+    pub legs: u32,
+    pub link_spacing: u32,
+    pub link_steel: u32,
+    pub cover: u32,
+    pub span: u32,
+    pub m: u32,
+    pub mq: u32,
+    pub v: u32,
+    pub environment: u32,
+    pub strict: u32,
+}
+
+/// Kind 2. Lengths in mm, N in N.
+#[derive(Clone, Copy, Debug)]
+pub struct Column {
+    pub b: u32,
+    pub h: u32,
+    pub concrete: u32,
+    pub steel: u32,
+    pub groups: u32,
+    pub link_diameter: u32,
+    pub link_spacing: u32,
+    pub l0: u32,
+    pub n: u32,
+}
+
+/// Kind 3. Lengths in mm.
+#[derive(Clone, Copy, Debug)]
+pub struct Mesh {
+    pub family: u32,
+    pub concrete: u32,
+    pub diameter: u32,
+    pub cross_bar: u32,
+    pub paired: u32,
+    pub apart: u32,
+    pub seismic: u32,
+    pub lap: u32,
+    pub compression: u32,
+    pub anchorage_given: u32,
+    pub lap_given: u32,
+}
+
+fn built(mark: u32, kind: u32, used: &[u32]) -> Member {
+    let mut fields = [0; 24];
+    fields[..used.len()].copy_from_slice(used);
+    Member { mark, kind, fields }
+}
+
+impl Beam {
+    pub fn member(&self, mark: u32) -> Member {
+        let x = self;
+        built(
+            mark,
+            1,
+            &[
+                x.b,
+                x.h,
+                x.bf,
+                x.hf,
+                x.tension_distance,
+                x.compression_distance,
+                x.concrete,
+                x.steel,
+                x.tension_groups,
+                x.compression_groups,
+                x.link_diameter,
+                x.legs,
+                x.link_spacing,
+                x.link_steel,
+                x.cover,
+                x.span,
+                x.m,
+                x.mq,
+                x.v,
+                x.environment,
+                x.strict,
+            ],
+        )
+    }
+}
+
+impl Column {
+    pub fn member(&self, mark: u32) -> Member {
+        let x = self;
+        let links = [x.link_diameter, x.link_spacing];
+        built(
+            mark,
+            2,
+            &[x.b, x.h, x.concrete, x.steel, x.groups, links[0], links[1], x.l0, x.n],
+        )
+    }
+}
+
+impl Mesh {
+    pub fn member(&self, mark: u32) -> Member {
+        let x = self;
+        let bars = [x.family, x.concrete, x.diameter, x.cross_bar, x.paired, x.apart];
+        let rest = [x.seismic, x.lap, x.compression, x.anchorage_given, x.lap_given];
+        built(mark, 3, &[&bars[..], &rest[..]].concat())
+    }
+}
+
+fn written(answer: raw::Answer, out: &[u8]) -> Result<&[u8], Refusal> {
+    if answer.question == 0 {
+        Ok(&out[..answer.length])
+    } else {
+        Err(Refusal { question: answer.question, member: answer.member })
+    }
+}
+
+/// The report of a schedule's bytes: the text, which fills `out` from its first byte. A refusal leaves `out` as it was.
+pub fn report<'a>(schedule: &[u8], out: &'a mut [u8]) -> Result<&'a [u8], Refusal> {
+    // SAFETY: both pointers are valid for their lengths, and `out` is borrowed alone.
+    let answer = unsafe {
+        raw::koxaltes_report(schedule.as_ptr(), schedule.len(), out.as_mut_ptr(), out.len())
+    };
+    written(answer, out)
+}
+
+/// The line of one built member. `first` are a beam's tension groups or a column's groups, `second` a beam's compression
+/// groups; a list that the kind does not have is not read.
+pub fn member_report<'a>(
+    member: &Member,
+    first: &[Group],
+    second: &[Group],
+    out: &'a mut [u8],
+) -> Result<&'a [u8], Refusal> {
+    // SAFETY: every pointer is valid for its length, and `out` is borrowed alone.
+    let answer = unsafe {
+        raw::koxaltes_member_report(
+            *member,
+            first.as_ptr(),
+            first.len(),
+            second.as_ptr(),
+            second.len(),
+            out.as_mut_ptr(),
+            out.len(),
+        )
+    };
+    written(answer, out)
+}
+
+/// The utilizations of one built member.
+pub fn member_utilization(
+    member: &Member,
+    first: &[Group],
+    second: &[Group],
+) -> Result<Utilization, Refusal> {
+    // SAFETY: both pointers are valid for their lengths.
+    let a = unsafe {
+        raw::koxaltes_member_utilization(
+            *member,
+            first.as_ptr(),
+            first.len(),
+            second.as_ptr(),
+            second.len(),
+        )
+    };
+    if a.question != 0 {
+        return Err(Refusal { question: a.question, member: a.member });
+    }
+    let u = a.utilization;
+    Ok(Utilization {
+        places: [
+            u.first_reached.then_some(u.first),
+            u.second_reached.then_some(u.second),
+            u.third_reached.then_some(u.third),
+            u.fourth_reached.then_some(u.fourth),
+        ],
+        governing: a.governs.then_some(a.governing),
+    })
+}

@@ -1,0 +1,49 @@
+-- `vectors::agrees` meets its contract.
+use Prim.Native.Nat.{_≤_}
+use mathlib.Core.Path.{_≡_}
+use native.Mathlib.Omega.{arith}
+use lib.ListN.{length, take}
+use Rattle.printing.proofs.Printing.{within}
+use borrow.Author.Needs.{needs}
+use Rattle.vectors.proofs.agrees.Statement.{statement}
+use Rattle.vectors.proofs.agrees.Tie as tie
+use Rattle.vectors.proofs.agrees.Reads as reads
+use Rattle.vectors.proofs.agrees.Lts as lts
+use Rattle.printing.proofs.print_schedule.Reads as print-schedule-reads
+use Rattle.vectors.proofs.same.Reads as same-reads
+
+-- what is printed stands within the buffer
+printed : (c : tie.After-print-schedule) →
+    let n = c .print-schedule .result in
+    let out = c .print-schedule .last .1 .0 in
+    (n ≤ length out) × (n ≡ length (take n out))
+printed c = within _ _ _ _ (c .print-schedule .ensures) (omega arith)
+
+slice-aggregate-print-schedule : tie.Need-slice-aggregate-print-schedule
+slice-aggregate-print-schedule c = search needs
+
+print-schedule-requires : tie.Need-print-schedule-requires
+print-schedule-requires c κs = search needs
+
+array-share-prefix-out : tie.Need-array-share-prefix-out
+array-share-prefix-out c = printed (c .before) .0
+
+slice-aggregate-same : tie.Need-slice-aggregate-same
+slice-aggregate-same c = printed (c .before .before) .1
+
+same-requires : tie.Need-same-requires
+same-requires c κs = search needs
+
+returns : tie.Need-returns
+returns c = search needs
+
+pub agrees-spec : {M : Type 1} → statement M
+agrees-spec =
+    tie.close
+    (tie.spec
+    slice-aggregate-print-schedule
+    print-schedule-requires
+    array-share-prefix-out
+    slice-aggregate-same
+    same-requires
+    returns)
