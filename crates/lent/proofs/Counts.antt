@@ -63,9 +63,10 @@ module _ (v : List ℕ) (first second : List Group) where
   beam-counts : fieldsHold (fieldsOf 1) 0 (filled (beamSlots v first second)) ≡ true → (slot v 8 ≤ length first) × (slot v 9 ≤ length second)
   unfolding fieldsOf
   beam-counts e =
-      let s = filled (beamSlots v first second) in
-      (all-there (slot v 8) first (at-most-four beamFields 1 8 s e (ltb→lt 8 37 tt) refl) (tension-accepted s e),
-      all-there (slot v 9) second (at-most-four beamFields 0 17 s e (ltb→lt 17 37 tt) refl) (compression-accepted s e))
+      let s = filled (beamSlots v first second) in (
+        all-there (slot v 8) first (at-most-four beamFields 1 8 s e (ltb→lt 8 37 tt) refl) (tension-accepted s e),
+        all-there (slot v 9) second (at-most-four beamFields 0 17 s e (ltb→lt 17 37 tt) refl) (compression-accepted s e),
+      )
 
   column-counts : fieldsHold (fieldsOf 2) 0 (filled (columnSlots v first)) ≡ true → slot v 4 ≤ length first
   unfolding fieldsOf
