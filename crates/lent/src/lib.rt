@@ -9,6 +9,8 @@ ghost use Rattle.lent.specs.Lent.{noGroup, four, flat, part, beamSlots, 
 use built::Built;
 use field::Slots;
 use member::Group;
+use member::Totals;
+use member::totals_of;
 
 // The fields of a kind in the order of a schedule, without the groups: 21 of a beam, 9 of a column, 11 of a mesh. Those past them are not read.
 #[repr(C)]
@@ -48,6 +50,14 @@ pub fn first_four(groups: &[Group]) -> [Group; 4]
         group_or(groups, 2),
         group_or(groups, 3),
     ]
+}
+
+// The totals of the first `count` groups of a lent list.
+pub fn lent_totals(groups: &[Group], count: usize) -> Totals
+    requires { ⌜ (count ≤ 4) × (count ≤ length (now groups)) × AcceptedGroups (take count (now groups)) ⌝ }
+    ensures { λ r. ⌜ TotalsOf (take count (now (groups .entry))) r ⌝ }
+{
+    totals_of(first_four(groups), count)
 }
 
 // The slots from `at` on hold `count` fields from field `from` on.
