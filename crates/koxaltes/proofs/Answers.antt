@@ -1,6 +1,6 @@
 -- From the answers of crate `report` to those that a caller gets.
 use Prim.Native.Nat.{ℕ}
-use mathlib.Core.Path.{_≡_, refl, sym, ap, subst, _∙_}
+use mathlib.Core.Path.{_≡_, refl, ap, subst, _∙_}
 use mathlib.Core.List.{List}
 use native.Mathlib.Omega.{arith}
 use Rattle.question.specs.declared.Question.{Question}
@@ -10,11 +10,11 @@ use Rattle.member.specs.declared.Group.{Group}
 use Rattle.built.specs.declared.Built.{Built}
 use Rattle.built.specs.Slots.{memberOf}
 use Rattle.lent.specs.declared.Lent.{Lent}
-use Rattle.lent.specs.Lent.{four, lentSlots, builtOf, slotsOf, lentMember, lentVerdict}
+use Rattle.lent.specs.Lent.{four, lentSlots, builtOf, lentMember}
 use Rattle.lent.proofs.Counts.{lent-verdict}
 use Rattle.report.specs.declared.Answer.{Answer}
 use Rattle.report.specs.declared.Answer.the-variants.{Written, Refused}
-use Rattle.report.specs.Report.{lineOrNo, memberReportOf}
+use Rattle.report.specs.Report.{memberReportOf}
 use Rattle.report.specs.Claim.{Reported, MemberReported}
 use Rattle.koxaltes.specs.declared.Told.{Told}
 use Rattle.koxaltes.specs.Told.{told, lentReportOf}

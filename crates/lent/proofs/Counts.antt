@@ -1,11 +1,11 @@
 -- A count above the length of its list is a no to 7 without a test of its own: a group that is missing is copied out with diameter 0, and no bar of the table has that.
 use Prim.Native.Nat.{ℕ, zero, suc, _≤_, _<_}
-use mathlib.Core.Path.{_≡_, refl, sym, ap, _∙_}
-use mathlib.Core.Bool.{Bool, true, false, _&&_}
+use mathlib.Core.Path.{_≡_, refl, ap}
+use mathlib.Core.Bool.{Bool, true, false}
 use mathlib.Core.List.{List, [], _∷_}
 use mathlib.Core.Logic.{⊎-elim}
 use native.Mathlib.Omega.{arith}
-use lib.Dec.{T, ltb, leb, ltb→lt}
+use lib.Dec.{ltb→lt}
 use lib.ListN.{length, getD, take}
 use borrow.Author.Tests.{le-leb}
 use Rattle.question.specs.declared.Question.the-variants.{Mark, Kind, Field}
@@ -17,7 +17,7 @@ use Rattle.field.specs.Domain.{holds, asked, fieldHolds}
 use Rattle.field.specs.Fields.{beamFields, columnFields, fieldsOf, fieldsHold, known}
 use Rattle.field.proofs.Tables.{in-between}
 use Rattle.built.specs.declared.Verdict.{Verdict}
-use Rattle.built.specs.Slots.{slot, groupsAt}
+use Rattle.built.specs.Slots.{slot}
 use Rattle.built.specs.Verdict.{ask, markInRange, memberVerdict, builtVerdict}
 use Rattle.built.proofs.Accepted.{hold-at, known-cases, tension-accepted, compression-accepted, column-groups-accepted}
 use Rattle.lent.specs.declared.Lent.{Lent}
