@@ -17,7 +17,7 @@ use Rattle.field.specs.Domain.{holds, asked, fieldHolds}
 use Rattle.field.specs.Fields.{beamFields, columnFields, fieldsOf, fieldsHold, known}
 use Rattle.field.proofs.Tables.{in-between}
 use Rattle.built.specs.declared.Verdict.{Verdict}
-use Rattle.built.specs.Slots.{slot}
+use Rattle.built.specs.Slots.{slot, beamAt, columnAt}
 use Rattle.built.specs.Verdict.{ask, markInRange, memberVerdict, builtVerdict}
 use Rattle.built.proofs.Accepted.{hold-at, known-cases, tension-accepted, compression-accepted, column-groups-accepted}
 use Rattle.lent.specs.declared.Lent.{Lent}
@@ -73,6 +73,21 @@ module _ (v : List ℕ) (first second : List Group) where
   column-counts e =
       let s = filled (columnSlots v first) in
       all-there (slot v 4) first (at-most-four columnFields 1 4 s e (ltb→lt 4 17 tt) refl) (column-groups-accepted s e)
+
+  -- the groups of a member whose fields pass question 7 are those that its counts name in its lists
+  pub beam-groups : fieldsHold (fieldsOf 1) 0 (filled (beamSlots v first second)) ≡ true
+      → (beamAt (filled (beamSlots v first second)) .tension ≡ take (slot v 8) first) × (beamAt (filled (beamSlots v first second)) .compression ≡ take (slot v 9) second)
+  unfolding fieldsOf beamAt
+  beam-groups e =
+      let s = filled (beamSlots v first second) in
+      let c = beam-counts e in (
+        first-groups (slot v 8) first (at-most-four beamFields 1 8 s e (ltb→lt 8 37 tt) refl) (c .0),
+        first-groups (slot v 9) second (at-most-four beamFields 0 17 s e (ltb→lt 17 37 tt) refl) (c .1),
+      )
+
+  pub column-groups : fieldsHold (fieldsOf 2) 0 (filled (columnSlots v first)) ≡ true → columnAt (filled (columnSlots v first)) .groups ≡ take (slot v 4) first
+  unfolding fieldsOf columnAt
+  column-groups e = first-groups (slot v 4) first (at-most-four columnFields 1 4 (filled (columnSlots v first)) e (ltb→lt 4 17 tt) refl) (column-counts e)
 
   counts-hold : (kind : ℕ) → known kind ≡ true → fieldsHold (fieldsOf kind) 0 (lentSlots kind v first second) ≡ true → countsHold kind v first second ≡ true
   unfolding lentSlots countsHold
