@@ -1,7 +1,7 @@
 -- A count above the length of its list is a no to 7 without a test of its own: a group that is missing is copied out with diameter 0, and no bar of the table has that.
 use Prim.Native.Nat.{ℕ, zero, suc, _≤_, _<_}
 use mathlib.Core.Path.{_≡_, refl, ap}
-use mathlib.Core.Bool.{Bool, true, false}
+use mathlib.Core.Bool.{Bool, true, false, _&&_}
 use mathlib.Core.List.{List, [], _∷_}
 use mathlib.Core.Logic.{⊎-elim}
 use native.Mathlib.Omega.{arith}
@@ -52,6 +52,9 @@ first-groups (suc (suc (suc (suc n)))) (g₀ ∷ g₁ ∷ g₂ ∷ []) h l = abs
 first-groups (suc (suc (suc (suc zero)))) (g₀ ∷ g₁ ∷ g₂ ∷ g₃ ∷ gs) h l = refl
 first-groups (suc (suc (suc (suc (suc n))))) (g₀ ∷ g₁ ∷ g₂ ∷ g₃ ∷ gs) h l = absurd (omega arith)
 
+both-hold : {a b : Bool} → a ≡ true → b ≡ true → (a && b) ≡ true
+both-hold p q = rw (p, q)
+
 -- ---- Question 7 of the counts follows from question 7 of the fields.
 
 -- a field that is a count up to 4
@@ -93,8 +96,8 @@ module _ (v : List ℕ) (first second : List Group) where
   unfolding lentSlots countsHold
   counts-hold kind k e =
       ⊎-elim
-      (λ p. let c = beam-counts (rw p at e) in rw p (rw (le-leb _ _ (c .0), le-leb _ _ (c .1))))
-      (λ q. ⊎-elim (λ p. rw p (rw (le-leb _ _ (column-counts (rw p at e))))) (λ p. rw p) q)
+      (λ p. let c = beam-counts (rw p at e) in rw p (both-hold (le-leb _ _ (c .0)) (le-leb _ _ (c .1))))
+      (λ q. ⊎-elim (λ p. rw p (le-leb _ _ (column-counts (rw p at e)))) (λ p. rw p) q)
       (known-cases kind k)
 
 -- So the verdict on the slots is the verdict on the lent member.
