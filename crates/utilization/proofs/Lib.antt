@@ -1,0 +1,5 @@
+pub mod Division
+pub mod Figures
+pub mod Utilized
+pub mod Largest
+pub mod Examples

@@ -1,0 +1,278 @@
+-- The utilizations of an accepted member are the nearest doubles, and each decides its check.
+use Prim.Native.Nat.{ℕ, _*_, _^_, _≤_, _<_}
+use mathlib.Core.Path.{_≡_, refl, _∙_}
+use mathlib.Core.List.{List}
+use mathlib.Core.Bool.{Bool, true, false, false≢true}
+use native.Mathlib.Nat.{lt-of-mul-lt-mul-right, mul-le-mul-left}
+use native.Mathlib.Omega.{arith}
+use lib.Dec.{T, leb, eqb}
+use borrow.Author.Tests.{ne-eqb, eqb-false, leb-true, leb-false, le-leb, lt-leb}
+use Rattle.quantity.specs.Choice.{if_then_else_}
+use Rattle.quantity.specs.Rounding.{down}
+use Rattle.quantity.proofs.Choice.{if-case}
+use Rattle.quantity.proofs.Rounding.{le-down, down-le, down-below}
+use Rattle.standard.specs.Concrete.{concreteOf}
+use Rattle.standard.specs.Steel.{steelOf}
+use Rattle.question.specs.declared.Question.{Question}
+use Rattle.outcome.specs.declared.Figure.{Figure}
+use Rattle.outcome.specs.declared.Figure.the-variants.{Reached, Unreached}
+use Rattle.outcome.specs.declared.Outcome.{Outcome}
+use Rattle.member.specs.Member.{Member, beam, column, mesh, Beam, Column, Mesh}
+use Rattle.member.specs.Accepted.{AcceptedMember, AcceptedBeam, AcceptedColumn, AcceptedMesh}
+use Rattle.section.specs.declared.Section.{Section}
+use Rattle.section.specs.Section.{sectionOf, l₀, M, Vd}
+use Rattle.section.specs.Bounded.{Bounded}
+use Rattle.section.proofs.Bounded.{bounded}
+use Rattle.service.specs.Steps.{widthLimit, spanDivisor, deflection, deflectionHolds}
+use Rattle.service.proofs.Sizes.{divisor-between}
+use Rattle.built.specs.declared.Built.{Built}
+use Rattle.built.specs.declared.Verdict.the-variants.{Accepted, Refused}
+use Rattle.built.specs.Slots.{beamAt, columnAt, meshAt, memberAt, memberOf}
+use Rattle.built.specs.Verdict.{builtVerdict}
+use Rattle.built.proofs.Accepted.{accepted-built}
+use Rattle.checks.specs.Outcome.{outcomeOf}
+use Rattle.checks.proofs.Figures.{member-short}
+use Rattle.utilization.specs.declared.Ratio.{Ratio}
+use Rattle.utilization.specs.declared.Utilization.{Utilization}
+use Rattle.utilization.specs.declared.Answer.{Answer}
+use Rattle.utilization.specs.declared.Answer.the-variants as answers
+use Rattle.utilization.specs.Utilization.{
+  quotient,
+  nearest,
+  noRatio,
+  ratio,
+  overFigure,
+  overLimit,
+  deflectionLimit,
+  beamUtilization,
+  columnUtilization,
+  meshUtilization,
+  utilizationOf,
+  ExactFigure,
+  ExactFigures,
+}
+use Rattle.utilization.specs.Governing.{ratiosOf}
+use Rattle.utilization.specs.Utilized.{answerOf, Decides, DecidesMember, Utilized}
+use Rattle.utilization.proofs.Division.{quotient-nearest, at-most-one, fair, nearest-fair}
+use Rattle.utilization.proofs.Largest.{Fair}
+use Rattle.utilization.proofs.Figures.{Is, exact-figures, beam-figures, axial-figure, mesh-figures}
+
+-- ---- Limits.
+
+pub width-limit-small : (x : Section) → widthLimit x < 2 ^ 53
+unfolding widthLimit
+width-limit-small x = if-case (λ (n : ℕ). n < 2 ^ 53) (eqb (x .environment) 1) 300 200 (λ _. omega arith) (λ _. omega arith)
+
+deflection-limit-small : (x : Section) → Bounded x → deflectionLimit x < 2 ^ 53
+unfolding deflectionLimit
+deflection-limit-small x a =
+    let d = divisor-between (l₀ x) (x .strict) .0 in
+    let k : deflectionLimit x ≤ 100 * l₀ x = down-le d (omega (arith, mul-le-mul-left (100 * l₀ x) d)) in
+    omega (arith, a .l₀-most)
+
+pub limit-found : (x : Section) (d r : ℕ) → Bounded x → d ≡ spanDivisor (l₀ x) (x .strict) → r ≡ down (100 * l₀ x) d → (r ≡ deflectionLimit x) × (r < 2 ^ 53)
+unfolding deflectionLimit
+limit-found x d r a p e =
+    let q : r ≡ deflectionLimit x = e ∙ rw p in
+    (q, rw q (deflection-limit-small x a))
+
+-- a whole number against a fraction rounded down: as against the fraction
+down-leb : (k n : ℕ) {d : ℕ} → 0 < d → leb k (down n d) ≡ leb (k * d) n
+down-leb k n {d} p = go (leb (k * d) n) refl
+  where
+    go : (t : Bool) → leb (k * d) n ≡ t → leb k (down n d) ≡ t
+    go true e = le-leb k (down n d) (le-down p (leb-true (k * d) n e))
+    go false e =
+        let t : down n d * d < k * d = omega (arith, down-below n d, leb-false (k * d) n e) in
+        lt-leb k (down n d) (lt-of-mul-lt-mul-right d t)
+
+deflection-by-limit : (x : Section) → leb (deflection x) (deflectionLimit x) ≡ deflectionHolds x
+unfolding deflectionLimit deflectionHolds
+deflection-by-limit x = down-leb (deflection x) (100 * l₀ x) (divisor-between (l₀ x) (x .strict) .0)
+
+-- ---- One utilization.
+
+some : (b : ℕ) → eqb b 0 ≡ false → 0 < b
+some b e = let n = eqb-false b 0 e in omega arith
+
+ratio-nearest : (a b : ℕ) → a < 2 ^ 53 → b < 2 ^ 53 → ratio quotient a b ≡ ratio nearest a b
+unfolding ratio
+ratio-nearest a b h k = go (eqb b 0) refl
+  where
+    go : (t : Bool) → eqb b 0 ≡ t →
+        (if t then noRatio else record { value = quotient a b; reached = true }) ≡ (if t then noRatio else record { value = nearest a b; reached = true })
+    go true e = refl
+    go false e = rw (quotient-nearest a b h (some b e) k)
+
+ratio-decides : (a b : ℕ) → b < 2 ^ 53 → Decides (ratio nearest a b .reached) (ratio nearest a b .value) (leb a b)
+unfolding ratio
+ratio-decides a b k = go (eqb b 0) refl
+  where
+    go : (t : Bool) → eqb b 0 ≡ t →
+        Decides ((if t then noRatio else record { value = nearest a b; reached = true }) .reached) ((if t then noRatio else record { value = nearest a b; reached = true }) .value) (leb a b)
+    go true e = λ r. absurd (false≢true r)
+    go false e = λ r. at-most-one a b (some b e) k
+
+figure-nearest : (a : ℕ) (f : Figure) → a < 2 ^ 53 → ExactFigure f → overFigure quotient a f ≡ overFigure nearest a f
+unfolding overFigure
+figure-nearest a (Reached v) h k = ratio-nearest a v h k
+figure-nearest a Unreached h k = refl
+
+limit-nearest : (f : Figure) (b : ℕ) → ExactFigure f → b < 2 ^ 53 → overLimit quotient f b ≡ overLimit nearest f b
+unfolding overLimit
+limit-nearest (Reached v) b h k = ratio-nearest v b h k
+limit-nearest Unreached b h k = refl
+
+figure-decides : (a n : ℕ) (f : Figure) → ExactFigure f → Is n f → Decides (overFigure nearest a f .reached) (overFigure nearest a f .value) (leb a n)
+unfolding overFigure
+figure-decides a n (Reached v) h e = rw (← e) (ratio-decides a v h)
+figure-decides a n Unreached h e = λ r. absurd (false≢true r)
+
+limit-decides : (f : Figure) (n b : ℕ) → Is n f → b < 2 ^ 53 → Decides (overLimit nearest f b .reached) (overLimit nearest f b .value) (leb n b)
+unfolding overLimit
+limit-decides (Reached v) n b e k = rw (← e) (ratio-decides v b k)
+limit-decides Unreached n b e k = λ r. absurd (false≢true r)
+
+-- ---- The four of a member.
+
+beam-nearest : (x : Section) (o : Outcome) → Bounded x → ExactFigures o → beamUtilization quotient x o ≡ beamUtilization nearest x o
+unfolding beamUtilization
+beam-nearest x o a e =
+    rw (
+      figure-nearest (M x) (o .first) (omega (arith, a .M-most)) (e .first),
+      figure-nearest (Vd x) (o .second) (omega (arith, a .Vd-most)) (e .second),
+      limit-nearest _ _ (e .third) (width-limit-small x),
+      limit-nearest _ _ (e .fourth) (deflection-limit-small x a),
+    )
+
+column-nearest : (x : Column) (o : Outcome) → AcceptedColumn x → ExactFigures o → columnUtilization quotient x o ≡ columnUtilization nearest x o
+unfolding columnUtilization
+column-nearest x o a e = rw (figure-nearest (x .N) (o .first) (omega (arith, a .N-most)) (e .first))
+
+mesh-nearest : (x : Mesh) (o : Outcome) → AcceptedMesh x → ExactFigures o → meshUtilization quotient x o ≡ meshUtilization nearest x o
+unfolding meshUtilization
+mesh-nearest x o a e =
+    rw (limit-nearest (o .first) (x .anchorage) (e .first) (omega (arith, a .anchorage)), limit-nearest (o .second) (x .lap) (e .second) (omega (arith, a .lap)))
+
+member-exact : (m : Member) → AcceptedMember m → ExactFigures (outcomeOf m)
+member-exact m a = exact-figures (outcomeOf m) (member-short m a)
+
+member-nearest : (m : Member) → AcceptedMember m → utilizationOf quotient m (outcomeOf m) ≡ utilizationOf nearest m (outcomeOf m)
+member-nearest (beam mark x) a = beam-nearest (sectionOf x) _ (bounded x (a .1)) (member-exact (beam mark x) a)
+member-nearest (column mark x) a = column-nearest x _ (a .1) (member-exact (column mark x) a)
+member-nearest (mesh mark x) a = mesh-nearest x _ (a .1) (member-exact (mesh mark x) a)
+
+member-decides : (m : Member) → AcceptedMember m → DecidesMember m (utilizationOf nearest m (outcomeOf m))
+unfolding beamUtilization columnUtilization meshUtilization
+member-decides (beam mark x) a =
+    let s = sectionOf x in
+    let e = member-exact (beam mark x) a in
+    let f = beam-figures x in
+    record {
+      moment = figure-decides _ _ _ (e .first) (f .moment);
+      shear = figure-decides _ _ _ (e .second) (f .shear);
+      width = limit-decides _ _ _ (f .width) (width-limit-small s);
+      deflection = rw (← deflection-by-limit s) (limit-decides _ _ _ (f .deflection-is) (deflection-limit-small s (bounded x (a .1))));
+    }
+member-decides (column mark x) a =
+    record { axial = figure-decides _ _ _ (member-exact (column mark x) a .first) (axial-figure x (concreteOf (x .concrete)) (steelOf (x .steel))) }
+member-decides (mesh mark x) a =
+    let f = mesh-figures x in
+    record {
+      anchorage = limit-decides _ _ _ (f .anchorage) (omega (arith, a .1 .anchorage));
+      lap = limit-decides _ _ _ (f .lap) (omega (arith, a .1 .lap));
+    }
+
+-- ---- Those of an accepted member are finite and not negative, so that the largest of them governs (`Largest`).
+
+-- where it was reached
+abbrev FairRatio : Ratio → Type 0
+FairRatio r = r .reached ≡ true → T (fair (r .value))
+
+no-ratio-fair : FairRatio noRatio
+no-ratio-fair e = absurd (false≢true e)
+
+ratio-fair : (a b : ℕ) → a < 2 ^ 53 → FairRatio (ratio nearest a b)
+unfolding ratio
+ratio-fair a b h =
+    if-case FairRatio (eqb b 0) noRatio (record { value = nearest a b; reached = true }) (λ _. no-ratio-fair) (λ e _. nearest-fair a b h (some b e))
+
+figure-fair : (a : ℕ) (f : Figure) → a < 2 ^ 53 → FairRatio (overFigure nearest a f)
+unfolding overFigure
+figure-fair a (Reached v) h = ratio-fair a v h
+figure-fair a Unreached h = no-ratio-fair
+
+limit-fair : (f : Figure) (b : ℕ) → ExactFigure f → FairRatio (overLimit nearest f b)
+unfolding overLimit
+limit-fair (Reached v) b h = ratio-fair v b h
+limit-fair Unreached b h = no-ratio-fair
+
+nearest-member-fair : (m : Member) → AcceptedMember m → Fair (ratiosOf (utilizationOf nearest m (outcomeOf m)))
+unfolding beamUtilization columnUtilization meshUtilization
+nearest-member-fair (beam mark x) a =
+    let s = sectionOf x in
+    let t = bounded x (a .1) in
+    let e = member-exact (beam mark x) a in (
+      figure-fair (M s) _ (omega (arith, t .M-most)),
+      (figure-fair (Vd s) _ (omega (arith, t .Vd-most)), (limit-fair _ (widthLimit s) (e .third), (limit-fair _ (deflectionLimit s) (e .fourth), tt))),
+    )
+nearest-member-fair (column mark x) a =
+    (figure-fair (x .N) _ (omega (arith, a .1 .N-most)), (no-ratio-fair, (no-ratio-fair, (no-ratio-fair, tt))))
+nearest-member-fair (mesh mark x) a =
+    let e = member-exact (mesh mark x) a in
+    (limit-fair _ (x .anchorage) (e .first), (limit-fair _ (x .lap) (e .second), (no-ratio-fair, (no-ratio-fair, tt))))
+
+pub member-fair : (m : Member) → AcceptedMember m → Fair (ratiosOf (utilizationOf quotient m (outcomeOf m)))
+member-fair m a = rw (member-nearest m a) (nearest-member-fair m a)
+
+-- ---- By kind.
+
+pub beam-bounded : {x : Beam} {y : Section} → y ≡ sectionOf x → AcceptedBeam x → Bounded y
+beam-bounded {x} e a = rw e (bounded x a)
+
+module _ (mark : ℕ) (v : List ℕ) (o : Outcome) {k : ℕ} {u : Utilization} where
+  pub of-beam : {x : Beam} {y : Section} → k ≡ 1 → x ≡ beamAt v → y ≡ sectionOf x → u ≡ beamUtilization quotient y o →
+      u ≡ utilizationOf quotient (memberAt mark k v) o
+  unfolding memberAt
+  of-beam p q r e = rw p (e ∙ rw (r, q))
+
+  pub of-column : {x : Column} → k ≡ 2 → x ≡ columnAt v → u ≡ columnUtilization quotient x o → u ≡ utilizationOf quotient (memberAt mark k v) o
+  unfolding memberAt
+  of-column p q e = rw p (e ∙ rw q)
+
+  pub of-mesh : {x : Mesh} → (k ≡ 1 → ⊥) → (k ≡ 2 → ⊥) → x ≡ meshAt v → u ≡ meshUtilization quotient x o → u ≡ utilizationOf quotient (memberAt mark k v) o
+  unfolding memberAt
+  of-mesh p r q e = rw (ne-eqb k 1 p, ne-eqb k 2 r) (e ∙ rw q)
+
+-- ---- The answer.
+
+pub accepted-exact : (x : Built) {o : Outcome} → builtVerdict (x .mark) (x .kind) (x .fields .v) ≡ Accepted → o ≡ outcomeOf (memberOf x) →
+    AcceptedMember (memberOf x) × ExactFigures o
+accepted-exact x p e =
+    let a = accepted-built (x .mark) (x .kind) (x .fields .v) p in
+    (a, rw e (member-exact (memberOf x) a))
+
+module _ (x : Built) {answer : Answer} where
+  pub given : builtVerdict (x .mark) (x .kind) (x .fields .v) ≡ Accepted →
+      answer ≡ answers.Given (utilizationOf quotient (memberOf x) (outcomeOf (memberOf x))) → Utilized x answer
+  unfolding answerOf
+  given p e =
+      let a = accepted-built _ _ _ p in
+      let same : (u : Utilization) → answer ≡ answers.Given u → u ≡ utilizationOf nearest (memberOf x) (outcomeOf (memberOf x)) =
+      λ u q. cc (member-nearest (memberOf x) a) in
+      record {
+        answer-is = rw p e;
+        nearest-is = same;
+        decides = λ u q. rw (same u q) (member-decides (memberOf x) a);
+      }
+
+  pub refused : (q : Question) → builtVerdict (x .mark) (x .kind) (x .fields .v) ≡ Refused q →
+      answer ≡ answers.Refused (record { question = q; member = 1 }) → Utilized x answer
+  unfolding answerOf
+  refused q p e =
+      let other : (u : Utilization) → answer ≡ answers.Given u → ⊥ = λ u r. let z : _≡_ {A = ℕ} 0 1 = cc in omega arith in
+      record {
+        answer-is = rw p e;
+        nearest-is = λ u r. absurd (other u r);
+        decides = λ u r. absurd (other u r);
+      }

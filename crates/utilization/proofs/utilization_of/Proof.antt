@@ -1,0 +1,45 @@
+-- `utilization::utilization_of` meets its contract.
+use mathlib.Core.Path.{sym, refl, _∙_}
+use Rattle.built.proofs.Accepted.{accepted-built}
+use Rattle.utilization.proofs.Utilized.{accepted-exact, given, refused}
+use borrow.Author.Needs.{needs}
+use Rattle.utilization.proofs.utilization_of.Statement.{statement}
+use Rattle.utilization.proofs.utilization_of.Tie as tie
+
+built-verdict-requires : tie.Need-built-verdict-requires
+built-verdict-requires c κs = search needs
+
+enum-known-q : tie.Need-enum-known-q
+enum-known-q c = search needs
+
+enum-told : tie.Need-enum-told
+enum-told c = search needs
+
+check-member-requires : tie.Need-check-member-requires
+check-member-requires c κs = accepted-built _ _ _ (sym (c .before .before .built-verdict .ensures) ∙ c .enum-told .given .1)
+
+member-utilization-requires : tie.Need-member-utilization-requires
+member-utilization-requires c κs =
+    let t = c .before in
+    accepted-exact _ (sym (t .before .before .built-verdict .ensures) ∙ t .enum-told .given .1) (c .check-member .ensures)
+
+returns : tie.Need-returns
+returns c = refused _ _ (sym (c .before .before .before .built-verdict .ensures) ∙ c .before .q .given .1) refl
+
+returns-2 : tie.Need-returns-2
+returns-2 c =
+    let k = c .before in
+    let t = k .before in
+    given _ (sym (t .before .before .built-verdict .ensures) ∙ t .enum-told .given .1) (rw (c .member-utilization .ensures, k .check-member .ensures))
+
+pub utilization-of-spec : {M : Type 1} → statement M
+utilization-of-spec =
+    tie.close
+    (tie.spec
+    built-verdict-requires
+    enum-known-q
+    enum-told
+    check-member-requires
+    member-utilization-requires
+    returns
+    returns-2)

@@ -1,0 +1,3 @@
+pub mod Utilization
+pub mod Governing
+pub mod Utilized
