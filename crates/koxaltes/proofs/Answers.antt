@@ -21,7 +21,7 @@ use Rattle.koxaltes.specs.Told.{told, lentReportOf}
 use Rattle.koxaltes.specs.Claim.{ReportTold, MemberTold}
 
 -- no question has the number 0
-numbered : (q : Question) → numberOf q ≡ 0 → ⊥
+pub numbered : (q : Question) → numberOf q ≡ 0 → ⊥
 numbered Size e = omega arith
 numbered NumberEnds e = omega arith
 numbered NumberForm e = omega arith
