@@ -28,11 +28,7 @@ fn place_after(src: &[u8], p: usize, k: usize) -> usize
     requires { ⌜ p ≤ length (now src) ⌝ }
     ensures { λ r. ⌜ (p ≤ r) × (r ≤ length (now (src .entry))) ⌝ }
 {
-    if src.len() - p < k {
-        src.len()
-    } else {
-        p + k
-    }
+    if src.len() - p < k { src.len() } else { p + k }
 }
 
 // The length in the two bytes at p, and 0 where they are not there.

@@ -1,0 +1,2 @@
+mod Answers
+mod Utilized

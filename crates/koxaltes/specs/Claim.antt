@@ -1,0 +1,27 @@
+-- The whole promise of each entry: what `report` promises (crate `report`), said of the record that the caller gets.
+use Prim.Native.Nat.{ℕ}
+use mathlib.Core.Path.{_≡_}
+use mathlib.Core.List.{List}
+use lib.ListN.{length, take}
+use Rattle.text.specs.Text.{lineOf}
+use Rattle.question.specs.declared.Refusal.{Refusal}
+use Rattle.member.specs.Member.{Member}
+use Rattle.schedule.specs.Reading.{Reading, got}
+use Rattle.schedule.specs.Schedule.{schedule}
+use Rattle.checks.specs.Claim.{SafeLine}
+use Rattle.report.specs.Report.{answered, bufferAfter, reportOf}
+use Rattle.report.specs.Claim.{SafeReport}
+use Rattle.koxaltes.specs.declared.Told.{Told}
+use Rattle.koxaltes.specs.Told.{told}
+
+-- `koxaltes_report`, for all bytes and every buffer: the answer, the whole buffer afterwards, and demand 3 of the text in it.
+pub record ReportTold (src before after : List ℕ) (r : Told) : Type 0 where
+  pub answer-is : r ≡ told (answered 0 (reportOf src) (length before))
+  pub buffer-is : after ≡ bufferAfter (reportOf src) before
+  pub claim : (ms : List Member) → schedule src ≡ got ms → r .question ≡ 0 → SafeReport ms (take (r .length) after)
+
+-- `koxaltes_member_report`, of a member m whose line, or refusal, is `line`.
+pub record MemberTold (line : Reading Refusal (List ℕ)) (m : Member) (before after : List ℕ) (r : Told) : Type 0 where
+  pub answer-is : r ≡ told (answered 1 line (length before))
+  pub buffer-is : after ≡ bufferAfter line before
+  pub claim : r .question ≡ 0 → SafeLine m (lineOf 0 (take (r .length) after))

@@ -1,0 +1,3 @@
+pub mod Told
+pub mod Claim
+pub mod Utilized

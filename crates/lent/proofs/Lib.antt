@@ -1,0 +1,4 @@
+pub mod Placed
+pub mod Counts
+pub mod Copies
+pub mod Unread

@@ -1,0 +1,37 @@
+-- `lent::beam_slots` meets its contract.
+use borrow.Author.Needs.{needs}
+use Rattle.lent.proofs.beam_slots.Statement.{statement}
+use Rattle.lent.proofs.beam_slots.Tie as tie
+
+put-fields-requires : tie.Need-put-fields-requires
+put-fields-requires c κs = search needs
+
+put-groups-requires : tie.Need-put-groups-requires
+put-groups-requires c κs = search needs
+
+put-fields-requires-2 : tie.Need-put-fields-requires-2
+put-fields-requires-2 c κs = search needs
+
+put-groups-requires-2 : tie.Need-put-groups-requires-2
+put-groups-requires-2 c κs = search needs
+
+put-fields-requires-3 : tie.Need-put-fields-requires-3
+put-fields-requires-3 c κs = search needs
+
+returns : tie.Need-returns
+returns c =
+    let c₄ = c .before in
+    let c₃ = c₄ .before in
+    let c₂ = c₃ .before in
+    rw (c .put-fields3 .ensures, c₄ .put-groups2 .ensures, c₃ .put-fields2 .ensures, c₂ .put-groups .ensures, c₂ .before .put-fields .ensures)
+
+pub beam-slots-spec : {M : Type 1} → statement M
+beam-slots-spec =
+    tie.close
+    (tie.spec
+    put-fields-requires
+    put-groups-requires
+    put-fields-requires-2
+    put-groups-requires-2
+    put-fields-requires-3
+    returns)
