@@ -1,0 +1,12 @@
+//! A second implementation of the checker, written from document 01 alone, and what is
+//! needed to compare it with the static library.
+
+pub mod branches;
+pub mod claim;
+pub mod fraction;
+pub mod library;
+pub mod make;
+pub mod model;
+
+#[cfg(test)]
+mod cases;
