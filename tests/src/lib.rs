@@ -3,10 +3,12 @@
 
 pub mod branches;
 pub mod claim;
+pub mod comparison;
 pub mod fraction;
 pub mod library;
 pub mod make;
 pub mod model;
+pub mod runs;
 
 #[cfg(test)]
 mod cases;
