@@ -7,6 +7,7 @@ pub mod comparison;
 pub mod fraction;
 pub mod library;
 pub mod make;
+pub mod measure;
 pub mod model;
 pub mod runs;
 

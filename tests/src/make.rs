@@ -8,6 +8,7 @@ pub mod equalities;
 pub mod meshes;
 pub mod random;
 pub mod record;
+pub mod vectors;
 
 pub use beams::{hugging_beams, random_beam};
 pub use columns::{hugging_columns, random_column};
