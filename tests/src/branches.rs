@@ -153,11 +153,14 @@ impl Tally {
             5
         };
         self.add("psi, tenths (5: between)", factor);
-        self.add("cover held (0 below 20, 2 above 65)", match beam.cover {
-            0..=19 => 0,
-            20..=65 => 1,
-            _ => 2,
-        });
+        self.add(
+            "cover held (0 below 20, 2 above 65)",
+            match beam.cover {
+                0..=19 => 0,
+                20..=65 => 1,
+                _ => 2,
+            },
+        );
         self.add("4.4.2 environment", beam.environment);
         self.add_if(beam.bf > beam.b, "4.4.2 with flange", 0);
         self.add_if(width == beam.width_limit(), "4.4.2 width at limit", width);
@@ -196,7 +199,9 @@ impl Tally {
             return;
         }
         self.add_if(column.length == 50 * column.b + 1, "4.2.4s one above 50b", 0);
-        let Some(&capacity) = outcome.figures().first() else { return };
+        let Some(&capacity) = outcome.figures().first() else {
+            return;
+        };
         self.add("column groups", u64::from(column.bars.groups));
         self.add("column concrete", column.concrete.grade);
         self.add("axial strength", column.steel.axial);
@@ -216,7 +221,11 @@ impl Tally {
         self.add_if(4 * column.link_diameter == column.bars.largest, "5.6.2 diameter at", 0);
         self.add_if(4 * column.link_diameter < column.bars.largest, "5.6.2 diameter below", 0);
         let bars = 15 * column.bars.smallest;
-        let limits = [(400, "5.6.2 spacing 400"), (column.b, "5.6.2 spacing b"), (bars, "5.6.2 spacing 15d")];
+        let limits = [
+            (400, "5.6.2 spacing 400"),
+            (column.b, "5.6.2 spacing b"),
+            (bars, "5.6.2 spacing 15d"),
+        ];
         let least = 400.min(column.b).min(bars);
         for (limit, name) in limits.into_iter().filter(|(limit, _)| *limit == least) {
             self.add_if(column.link_spacing == limit, name, 0);
@@ -225,27 +234,36 @@ impl Tally {
     }
 
     fn mesh(&mut self, mesh: &Mesh, outcome: &Outcome) {
-        let (anchorage, lap) = (mesh.scaled_anchorage().div_ceil(SCALE), mesh.scaled_lap());
-        let column = mesh.concrete.grade.min(40);
-        let row = |bars: bool| 1000 * mesh.family + 100 * u64::from(bars) + column;
-        self.add("5.2.5 row (family, cross bar, concrete)", row(mesh.cross_bar));
+        let anchorage = mesh.scaled_anchorage();
+        let required = anchorage.div_ceil(SCALE);
+        self.add("5.2.5 row (family, cross bar, concrete)", mesh_row(mesh, mesh.cross_bar));
         self.add("paired 1, apart 2, both 3", u64::from(mesh.paired) + 2 * u64::from(mesh.apart));
-        self.add_if(mesh.scaled_anchorage() == 200 * SCALE, "5.2.5 held at 200", 0);
-        self.add_if(mesh.anchorage_given == anchorage, "5.2.5 at", 0);
-        self.add_if(mesh.anchorage_given + 1 == anchorage, "5.2.5 one below", 0);
         self.add("seismic", mesh.seismic);
-        self.add_if(mesh.scaled_anchorage() % SCALE != 0, "5.2.5 rounded up", 0);
-        if outcome.figures().len() < 2 {
-            return;
+        self.add_if(anchorage == 200 * SCALE, "5.2.5 held at 200", 0);
+        self.add_if(anchorage < required * SCALE, "5.2.5 rounded up", 0);
+        self.add_if(mesh.anchorage_given == required, "5.2.5 at", 0);
+        self.add_if(mesh.anchorage_given + 1 == required, "5.2.5 one below", 0);
+        if outcome.figures().len() == 2 {
+            self.lap(mesh);
         }
-        self.add("5.3.7 row (family, stacked, concrete)", row(!mesh.flat));
-        self.add(if mesh.compression { "5.3.7 compression, d" } else { "5.3.7 d" }, mesh.diameter);
-        let floor = mesh.flat && !mesh.compression && mesh.diameter < 12 && lap == 300 * SCALE;
-        self.add_if(floor, "5.3.7 held at 300", 0);
-        self.add_if(lap % SCALE != 0, "5.3.7 rounded up", 0);
-        self.add_if(mesh.lap_given == lap.div_ceil(SCALE), "5.3.7 at", 0);
-        self.add_if(mesh.lap_given + 1 == lap.div_ceil(SCALE), "5.3.7 one below", 0);
     }
+
+    fn lap(&mut self, mesh: &Mesh) {
+        let lap = mesh.scaled_lap();
+        let required = lap.div_ceil(SCALE);
+        self.add("5.3.7 row (family, stacked, concrete)", mesh_row(mesh, !mesh.flat));
+        self.add(if mesh.compression { "5.3.7 compression, d" } else { "5.3.7 d" }, mesh.diameter);
+        let plain = mesh.flat && !mesh.compression && mesh.diameter < 12;
+        self.add_if(plain && lap == 300 * SCALE, "5.3.7 held at 300", 0);
+        self.add_if(lap < required * SCALE, "5.3.7 rounded up", 0);
+        self.add_if(mesh.lap_given == required, "5.3.7 at", 0);
+        self.add_if(mesh.lap_given + 1 == required, "5.3.7 one below", 0);
+    }
+}
+
+/// A row and column of the anchorage table.
+fn mesh_row(mesh: &Mesh, cross_bar: bool) -> u64 {
+    1000 * mesh.family + 100 * u64::from(cross_bar) + mesh.concrete.grade.min(40)
 }
 
 fn kind(member: &Member) -> u64 {
@@ -269,32 +287,34 @@ pub fn required() -> Vec<Case> {
     cases
 }
 
+/// Cases of beams without variants.
+const BEAM_CASES: [&str; 22] = [
+    "6.3.1 at 0.2 percent",
+    "6.3.1 at 45 ft/fy",
+    "6.3.1 by 45 ft/fy",
+    "4.2.2-3 at",
+    "4.2.2 without compression bars",
+    "4.2.2 with compression bars",
+    "4.2.2 at t = 2a'k",
+    "4.2.3 reached",
+    "4.2.3 with t below 0",
+    "4.2.2 M at",
+    "4.2.2 M one above",
+    "4.2.3 M at",
+    "4.2.3 M one above",
+    "4.3.3 V at",
+    "4.3.3 V one above",
+    "V at 0.7 ft b h0",
+    "5.5.6r at",
+    "5.5.6r not put",
+    "4.4.1 at",
+    "4.4.2 with flange",
+    "4.5.1 at limit",
+    "4.5.1 one above",
+];
+
 fn put_beam_cases(put: &mut impl FnMut(&'static str, &[u64])) {
-    let single = [
-        "6.3.1 at 0.2 percent",
-        "6.3.1 at 45 ft/fy",
-        "6.3.1 by 45 ft/fy",
-        "4.2.2-3 at",
-        "4.2.2 without compression bars",
-        "4.2.2 with compression bars",
-        "4.2.2 at t = 2a'k",
-        "4.2.3 reached",
-        "4.2.3 with t below 0",
-        "4.2.2 M at",
-        "4.2.2 M one above",
-        "4.2.3 M at",
-        "4.2.3 M one above",
-        "4.3.3 V at",
-        "4.3.3 V one above",
-        "V at 0.7 ft b h0",
-        "5.5.6r at",
-        "5.5.6r not put",
-        "4.4.1 at",
-        "4.4.2 with flange",
-        "4.5.1 at limit",
-        "4.5.1 one above",
-    ];
-    single.into_iter().for_each(|about| put(about, &[0]));
+    BEAM_CASES.into_iter().for_each(|about| put(about, &[0]));
     put("steel code, fyk", &[400, 500]);
     put("link steel, fyv", &[270, 360]);
     put("beam concrete", &[20, 25, 30, 35, 40, 45, 50]);

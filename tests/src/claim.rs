@@ -106,8 +106,7 @@ fn moment(beam: &Beam) -> (&'static str, Fraction) {
 fn shear(beam: &Beam) -> Fraction {
     let (h0, ft) = (whole(beam.h0()), of(beam.concrete.ft, 100));
     let links = whole(beam.legs) * steel_area(tables::area(beam.link_diameter).unwrap());
-    of(7, 10) * ft * whole(beam.b) * h0.clone()
-        + whole(beam.fyv) * links * h0 / whole(beam.spacing)
+    of(7, 10) * ft * whole(beam.b) * h0.clone() + whole(beam.fyv) * links * h0 / whole(beam.spacing)
 }
 
 /// f = Mq/(0.87·h0·As), N/mm².
@@ -189,10 +188,7 @@ fn plain_of_beam(beam: &Beam) -> Vec<Plain> {
     let least = of(24, 100) * ft.clone() * whole(beam.b * beam.spacing) / whole(beam.fyv);
     let plain = |name, holds| Plain { name, holds };
     vec![
-        plain(
-            "6.3.1",
-            area >= of(2, 1000) * gross.clone() && tension >= of(45, 100) * ft * gross,
-        ),
+        plain("6.3.1", area >= of(2, 1000) * gross.clone() && tension >= of(45, 100) * ft * gross),
         plain("4.2.2-3", depth <= of(beam.steel.depth, 100) * whole(beam.h0())),
         plain("5.5.6s", beam.spacing <= spacing_limit(beam, needed)),
         plain("5.5.6r", !needed || links >= least),
@@ -282,9 +278,8 @@ fn lap(mesh: &Mesh) -> Fraction {
 }
 
 fn exact_of_mesh(mesh: &Mesh) -> Exact {
-    let length = |name, place, exact, given| {
-        Figured::extent(name, place, exact, whole(given), whole(1))
-    };
+    let length =
+        |name, place, exact, given| Figured::extent(name, place, exact, whole(given), whole(1));
     let anchorage = anchorage(mesh, mesh.cross_bar, mesh.apart);
     let figured = vec![
         length("5.2.5", 0, anchorage, mesh.anchorage_given),

@@ -2,6 +2,7 @@
 
 use crate::branches::Tally;
 use crate::claim;
+use crate::guard::Guarded;
 use crate::library::{self, Utilization};
 use crate::make::{encode, Random, Record};
 use crate::model::built::{self, Built, Group};
@@ -78,6 +79,8 @@ pub struct Comparison<'a, C> {
     checker: C,
     random: &'a Random,
     junk: Vec<u8>,
+    /// Where the checker's inputs lie: a schedule or the two lists, then the output.
+    guards: [Guarded; 3],
     pub tally: Tally,
     pub schedules: u64,
     pub members: u64,
@@ -88,7 +91,13 @@ pub struct Comparison<'a, C> {
     pub utilization_answers: Answers,
 }
 
-const LONGEST: usize = 64_000;
+/// Longer than any report and any compared schedule.
+const LONGEST: usize = 128_000;
+
+/// The question answered no, or 0.
+fn question(answer: Result<usize, Refusal>) -> usize {
+    answer.map_or_else(|refusal| refusal.question as usize, |_| 0)
+}
 
 fn hex(bytes: &[u8]) -> String {
     bytes.iter().map(|byte| format!("{byte:02x}")).collect()
@@ -129,6 +138,7 @@ impl<'a, C: Checker> Comparison<'a, C> {
             checker,
             random,
             junk: random.junk(2 * LONGEST),
+            guards: std::array::from_fn(|_| Guarded::new(LONGEST)),
             tally: Tally::default(),
             schedules: 0,
             members: 0,
@@ -155,7 +165,6 @@ impl<'a, C: Checker> Comparison<'a, C> {
 
     /// One schedule with every room.
     pub fn schedule(&mut self, bytes: &[u8]) -> Result<(), String> {
-        let before = bytes.to_vec();
         self.schedules += 1;
         let mut text = self.buffer(LONGEST);
         let answer = report::report(bytes, &mut text);
@@ -164,20 +173,28 @@ impl<'a, C: Checker> Comparison<'a, C> {
             Err(_) => vec![self.random.below(400) as usize],
         };
         for room in rooms {
-            let mut expected = self.buffer(room);
-            let mut found = expected.clone();
-            let model = report::report(bytes, &mut expected);
-            let checker = self.checker.report(bytes, &mut found);
-            self.calls += 1;
-            let question = model.map_or_else(|refusal| refusal.question, |_| 0);
-            self.schedule_answers[question as usize] += 1;
-            let input = || format!("schedule {}", hex(bytes));
-            difference(input, (model, &expected), (checker, &found))?;
-        }
-        if before != bytes {
-            return Err(format!("schedule {} was changed", hex(&before)));
+            self.schedule_in(bytes, room)?;
         }
         answer.map_or(Ok(()), |length| self.accepted(bytes, &text[..length]))
+    }
+
+    /// One schedule with a buffer of this length.
+    fn schedule_in(&mut self, bytes: &[u8], room: usize) -> Result<(), String> {
+        let mut expected = self.buffer(room);
+        let [source, out, _] = &mut self.guards;
+        let source = source.copy(bytes);
+        let found = out.copy(&expected);
+        let model = report::report(bytes, &mut expected);
+        let checker = self.checker.report(source, found);
+        self.calls += 1;
+        self.schedule_answers[question(model)] += 1;
+        let input = || format!("schedule {}", hex(bytes));
+        difference(input, (model, &expected), (checker, found))?;
+        if bytes == source {
+            Ok(())
+        } else {
+            Err(format!("{} was changed", input()))
+        }
     }
 
     /// Demand 3 of an accepted schedule's text, and the cases that it reached.
@@ -210,14 +227,7 @@ impl<'a, C: Checker> Comparison<'a, C> {
             Err(_) => vec![self.random.below(200) as usize],
         };
         for room in rooms {
-            let mut expected = self.buffer(room);
-            let mut found = expected.clone();
-            let model = report::member_report(&built, first, second, &mut expected);
-            let checker = self.checker.member_report(&built, first, second, &mut found);
-            self.calls += 1;
-            let question = model.map_or_else(|refusal| refusal.question, |_| 0);
-            self.built_answers[question as usize] += 1;
-            difference(|| format!("{record:?}"), (model, &expected), (checker, &found))?;
+            self.built_in(record, room)?;
         }
         if let Ok(length) = answer {
             let line = String::from_utf8_lossy(&text[..length - 1]).into_owned();
@@ -228,11 +238,25 @@ impl<'a, C: Checker> Comparison<'a, C> {
         self.utilization(record)
     }
 
+    /// One built member with a buffer of this length.
+    fn built_in(&mut self, record: &Record, room: usize) -> Result<(), String> {
+        let built = record.built();
+        let mut expected = self.buffer(room);
+        let [first, second, out] = &mut self.guards;
+        let (first, second) = (first.copy(&record.first), second.copy(&record.second));
+        let found = out.copy(&expected);
+        let model = report::member_report(&built, &record.first, &record.second, &mut expected);
+        let checker = self.checker.member_report(&built, first, second, found);
+        self.calls += 1;
+        self.built_answers[question(model)] += 1;
+        difference(|| format!("{record:?}"), (model, &expected), (checker, found))
+    }
+
     fn utilization(&mut self, record: &Record) -> Result<(), String> {
         let built = record.built();
-        let (first, second) = (record.first.as_slice(), record.second.as_slice());
-        let model =
-            Utilization::expected(utilization::member_utilization(&built, first, second));
+        let [first, second, _] = &mut self.guards;
+        let (first, second) = (first.copy(&record.first), second.copy(&record.second));
+        let model = Utilization::expected(utilization::member_utilization(&built, first, second));
         let checker = self.checker.member_utilization(&built, first, second);
         self.calls += 1;
         self.utilization_answers[model.question as usize] += 1;

@@ -144,7 +144,7 @@ impl Sub for Fraction {
     type Output = Fraction;
 
     fn sub(self, other: Fraction) -> Fraction {
-        self + other.negated()
+        Add::add(self, other.negated())
     }
 }
 
@@ -163,8 +163,7 @@ impl Div for Fraction {
 
     fn div(self, other: Fraction) -> Fraction {
         assert!(!other.upper.is_zero(), "division by zero");
-        let inverse =
-            Fraction { negative: other.negative, upper: other.lower, lower: other.upper };
+        let inverse = Fraction { negative: other.negative, upper: other.lower, lower: other.upper };
         self * inverse
     }
 }
@@ -200,7 +199,9 @@ mod tests {
         assert!(third.clone() + half.clone() == Fraction::of(5, 6));
         assert!(third.clone() - half.clone() < Fraction::whole(0));
         assert!(third.clone() - half.clone() + half.clone() == Fraction::of(2, 6));
-        assert!((third.clone() - half.clone()) / (half.clone() - third.clone()) < Fraction::of(0, 1));
+        assert!(
+            (third.clone() - half.clone()) / (half.clone() - third.clone()) < Fraction::of(0, 1)
+        );
         assert!(third / half == Fraction::of(2, 3));
     }
 

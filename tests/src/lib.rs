@@ -5,6 +5,7 @@ pub mod branches;
 pub mod claim;
 pub mod comparison;
 pub mod fraction;
+pub mod guard;
 pub mod library;
 pub mod make;
 pub mod measure;
@@ -13,3 +14,5 @@ pub mod runs;
 
 #[cfg(test)]
 mod cases;
+#[cfg(test)]
+mod faults;

@@ -108,15 +108,7 @@ pub fn member_report(
     let ((first, n1), (second, n2)) = (list(first), list(second));
     // SAFETY: the areas are valid for their lengths; `out` overlaps none of them.
     answer(unsafe {
-        koxaltes_member_report(
-            member(built),
-            first,
-            n1,
-            second,
-            n2,
-            out.as_mut_ptr(),
-            out.len(),
-        )
+        koxaltes_member_report(member(built), first, n1, second, n2, out.as_mut_ptr(), out.len())
     })
 }
 

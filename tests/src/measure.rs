@@ -126,6 +126,6 @@ mod tests {
         });
         assert_eq!(sum, 100_000);
         assert!(empty < 4096, "{empty}");
-        assert!(large >= 100_000 && large < 500_000, "{large}");
+        assert!((100_000..500_000).contains(&large), "{large}");
     }
 }

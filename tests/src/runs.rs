@@ -14,13 +14,25 @@ pub fn all<C: Checker>(
     random: &Random,
     multiplier: u64,
 ) -> Outcome {
-    random_schedules(comparison, random, 3000 * multiplier)?;
-    hugging_schedules(comparison, random, 1500 * multiplier)?;
+    random_schedules(comparison, random, 6000 * multiplier)?;
+    hugging_schedules(comparison, random, 4000 * multiplier)?;
     equality_schedules(comparison, random)?;
+    every_mesh(comparison, random)?;
+    every_slenderness(comparison, random)?;
     edge_members(comparison, random, 3 * multiplier)?;
     damaged_schedules(comparison, random, 8 * multiplier)?;
     long_schedules(comparison, random, 10 * multiplier)?;
     built_members(comparison, random, 6000 * multiplier)
+}
+
+/// A short run that still reaches every case.
+pub fn quick<C: Checker>(comparison: &mut Comparison<C>, random: &Random) -> Outcome {
+    random_schedules(comparison, random, 100)?;
+    hugging_schedules(comparison, random, 500)?;
+    equality_schedules(comparison, random)?;
+    every_mesh(comparison, random)?;
+    every_slenderness(comparison, random)?;
+    built_members(comparison, random, 100)
 }
 
 /// Schedules of few members, accepted or not.
@@ -31,8 +43,7 @@ fn random_schedules<C: Checker>(
 ) -> Outcome {
     for _ in 0..count {
         let length = random.below(9);
-        let mut records: Vec<Record> =
-            (0..length).map(|_| make::random_member(random)).collect();
+        let mut records: Vec<Record> = (0..length).map(|_| make::random_member(random)).collect();
         make::renumber(random, &mut records);
         if random.one_in(20) && length > 1 {
             let place = 1 + random.below(length - 1) as usize;
@@ -83,6 +94,26 @@ fn equality_schedules<C: Checker>(comparison: &mut Comparison<C>, random: &Rando
         comparison.built(record)?;
     }
     together(comparison, random, records)
+}
+
+/// Each mesh there is, with given lengths at the required ones.
+fn every_mesh<C: Checker>(comparison: &mut Comparison<C>, random: &Random) -> Outcome {
+    let mut records = meshes::every_mesh();
+    for chunk in records.chunks_mut(500) {
+        make::renumber(random, chunk);
+        comparison.records(chunk)?;
+    }
+    Ok(())
+}
+
+/// One column at lengths throughout the table of φ and past both its ends.
+fn every_slenderness<C: Checker>(comparison: &mut Comparison<C>, random: &Random) -> Outcome {
+    let mut records = columns::every_slenderness();
+    for chunk in records.chunks_mut(500) {
+        make::renumber(random, chunk);
+        comparison.records(chunk)?;
+    }
+    Ok(())
 }
 
 /// The first accepted member that is made and wanted.

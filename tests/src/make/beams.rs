@@ -170,7 +170,9 @@ fn largest_quasi(beam: &Beam, checks: &[Check]) -> u64 {
 /// The beam with each load next to the figure that it is held against.
 pub fn hugging_beams(record: &Record) -> Vec<Record> {
     let mut records = vec![record.clone()];
-    let Some(beam) = as_beam(record) else { return records };
+    let Some(beam) = as_beam(record) else {
+        return records;
+    };
     if !beam.is_within_depth_limit() {
         return records;
     }
@@ -190,7 +192,9 @@ pub fn hugging_beams(record: &Record) -> Vec<Record> {
 fn hugging_service(record: &Record) -> Vec<Record> {
     let spacing = u64::from(record.fields[SPACING]).min(200);
     let record = record.with(MOMENT, 0).with(SHEAR, 0).with(SPACING, spacing);
-    let Some(beam) = as_beam(&record) else { return Vec::new() };
+    let Some(beam) = as_beam(&record) else {
+        return Vec::new();
+    };
     let mut quasi = Vec::new();
     let mut checks = Vec::new();
     for check in [Check::SteelStress, Check::CrackWidth, Check::Deflection] {
@@ -206,7 +210,6 @@ fn hugging_service(record: &Record) -> Vec<Record> {
 
 /// σ where ψ leaves 0.2 and where it reaches 1.
 fn strain_factor_edges(beam: &Beam) -> [u64; 2] {
-    let relief =
-        325 * beam.concrete.ftk * beam.doubled_tension_area() / beam.tension.area;
+    let relief = 325 * beam.concrete.ftk * beam.doubled_tension_area() / beam.tension.area;
     [relief * 10 / 9, (relief * 10).min(5_000_000)]
 }

@@ -21,32 +21,35 @@ fn random_length(random: &Random, b: u64) -> u64 {
     length.clamp(500, 30_000)
 }
 
-/// A column that most often passes the questions.
-pub fn random_column(random: &Random) -> Record {
-    let b = random.within(300, if random.one_in(2) { 1500 } else { 600 });
-    let h = random.within(b, if random.one_in(2) { 1500 } else { b + 200 }.min(1500));
-    let head = [b as u32, h as u32, random.pick(&GRADES), random.within(1, 2) as u32];
-    let tail = [random.pick(&[6, 8, 10, 12]), 0, random_length(random, b) as u32, 0];
-    let mut record = Record::column(1, head, &[], tail);
-    let percent = if random.one_in(3) { random.within(28, 54) } else { random.within(4, 35) };
-    record.first = random_groups(random, b * h * percent / 100);
-    record.count_groups();
+/// Link spacings at and past each limit, or well inside.
+fn random_spacing(random: &Random, record: &Record) -> u32 {
+    let b = record.fields[B];
     let smallest = record.first.iter().map(|group| group.diameter).min().unwrap_or(6);
     let spacing = match random.below(4) {
-        0 => random.pick(&[400, 401, b as u32, b as u32 + 1]),
+        0 => random.pick(&[400, 401, b, b + 1]),
         1 => 15 * smallest + random.below(2) as u32,
         _ => random.within(50, 300) as u32,
     };
-    record.fields[SPACING] = spacing.min(600);
-    if random.one_in(2) {
-        record.fields[LINK] = 12;
-    }
-    if let Some(column) = as_column(&record) {
-        if column.is_within_slenderness() {
-            let percent = random.within(0, 105);
-            record.fields[AXIAL] =
-                (column.axial_capacity() * percent / 100).min(1_000_000_000) as u32;
-        }
+    spacing.min(600)
+}
+
+/// A column that most often passes the questions.
+pub fn random_column(random: &Random) -> Record {
+    let b = random.within(300, if random.one_in(2) { 1500 } else { 600 });
+    let highest = if random.one_in(2) { 1500 } else { b + 200 };
+    let h = random.within(b, highest.min(1500));
+    let grade = random.pick(&GRADES);
+    let head = [b as u32, h as u32, grade, random.within(1, 2) as u32];
+    let link = random.pick(&[6, 8, 10, 12, 12, 12]);
+    let tail = [link, 0, random_length(random, b) as u32, 0];
+    let mut record = Record::column(1, head, &[], tail);
+    let tenths = if random.one_in(3) { random.within(28, 54) } else { random.within(4, 35) };
+    record.first = random_groups(random, b * h * tenths / 100);
+    record.count_groups();
+    record.fields[SPACING] = random_spacing(random, &record);
+    if let Some(column) = as_column(&record).filter(Column::is_within_slenderness) {
+        let load = column.axial_capacity() * random.within(0, 105) / 100;
+        record.fields[AXIAL] = load.min(1_000_000_000) as u32;
     }
     record
 }
@@ -61,7 +64,9 @@ pub fn as_column(record: &Record) -> Option<Column> {
 /// The column with its load, links and length next to what they are held against.
 pub fn hugging_columns(record: &Record) -> Vec<Record> {
     let mut records = vec![record.clone()];
-    let Some(column) = as_column(record) else { return records };
+    let Some(column) = as_column(record) else {
+        return records;
+    };
     let mut set = |field: usize, value: u64| {
         records.extend(around(value).map(|value| record.with(field, value)));
     };
@@ -71,5 +76,19 @@ pub fn hugging_columns(record: &Record) -> Vec<Record> {
     set(LENGTH, 8 * column.b);
     set(LENGTH, 50 * column.b);
     set(SPACING, 400.min(column.b).min(15 * column.bars.smallest));
+    records
+}
+
+/// A column at each point of the table of φ, next to it, and between.
+pub fn every_slenderness() -> Vec<Record> {
+    let mut records = Vec::new();
+    for (b, code) in [(300, 1), (301, 2), (397, 2), (600, 1)] {
+        let column = Record::column(1, [b, 700, 35, code], &[(25, 8), (20, 4)], [10, 200, 500, 1]);
+        for tenth in 0..=510 {
+            let length = u64::from(b) * tenth / 10;
+            let near = around(length).map(|length| column.with(LENGTH, length.clamp(500, 30_000)));
+            records.extend(near);
+        }
+    }
     records
 }

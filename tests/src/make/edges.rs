@@ -6,69 +6,76 @@ use crate::model::built::Group;
 
 const HUGE: u32 = u32::MAX;
 
-/// Values to try in every field of a kind.
-fn values(kind: u32) -> Vec<(usize, Vec<u32>)> {
-    let grades = vec![0, 15, 19, 20, 21, 24, 25, 45, 50, 51, 55, HUGE];
-    let links = vec![0, 5, 6, 7, 8, 9, 10, 11, 12, 13, 14, HUGE];
-    let large = vec![0, 1, 99_999_999, 100_000_000, 100_000_001, HUGE];
-    let codes = vec![0, 1, 2, 3, HUGE];
-    let flag = vec![0, 1, 2, HUGE];
-    match kind {
-        1 => vec![
-            (beam::B, vec![0, 99, 100, 1000, 1001, HUGE]),
-            (beam::H, vec![0, 159, 160, 2000, 2001, HUGE]),
-            (beam::BF, vec![0, 99, 100, 3000, 3001, HUGE]),
-            (beam::HF, vec![0, 1, 1000, 1001, HUGE]),
-            (beam::AS, vec![0, 19, 20, 200, 201, HUGE]),
-            (beam::A2, vec![0, 1, 19, 20, 200, 201, HUGE]),
-            (beam::CONCRETE, grades),
-            (beam::STEEL, codes.clone()),
-            (beam::TENSION, vec![0, 1, 2, 3, 4, 5, HUGE]),
-            (beam::COMPRESSION, vec![0, 1, 2, 3, 4, 5, HUGE]),
-            (beam::LINK, links),
-            (beam::LEGS, vec![0, 1, 2, 8, 9, HUGE]),
-            (beam::SPACING, vec![0, 49, 50, 400, 401, HUGE]),
-            (beam::LINK_STEEL, codes),
-            (beam::COVER, vec![0, 14, 15, 200, 201, HUGE]),
-            (beam::SPAN, vec![0, 999, 1000, 12_000, 12_001, HUGE]),
-            (beam::MOMENT, large.clone()),
-            (beam::MOMENT_QUASI, large.clone()),
-            (beam::SHEAR, large),
-            (beam::ENVIRONMENT, vec![0, 1, 2, 3, 4, HUGE]),
-            (beam::STRICT, flag),
-        ],
-        2 => vec![
-            (column::B, vec![0, 299, 300, 1500, 1501, HUGE]),
-            (column::H, vec![0, 299, 300, 1500, 1501, HUGE]),
-            (column::CONCRETE, grades),
-            (column::STEEL, codes),
-            (column::GROUPS, vec![0, 1, 2, 3, 4, 5, HUGE]),
-            (column::LINK, links),
-            (column::SPACING, vec![0, 49, 50, 600, 601, HUGE]),
-            (column::LENGTH, vec![0, 499, 500, 30_000, 30_001, HUGE]),
-            (column::AXIAL, vec![0, 1, 1_000_000_000, 1_000_000_001, HUGE]),
-        ],
-        _ => vec![
-            (mesh::FAMILY, codes.clone()),
-            (mesh::CONCRETE, grades),
-            (mesh::DIAMETER, (0..=52).chain([HUGE]).collect()),
-            (mesh::CROSS, flag.clone()),
-            (mesh::PAIRED, flag.clone()),
-            (mesh::APART, flag.clone()),
-            (mesh::SEISMIC, vec![0, 1, 2, 3, 4, 5, HUGE]),
-            (mesh::LAP, codes),
-            (mesh::COMPRESSION, flag),
-            (mesh::ANCHORAGE_GIVEN, vec![0, 1, 100_000, 100_001, HUGE]),
-            (mesh::LAP_GIVEN, vec![0, 1, 100_000, 100_001, HUGE]),
-        ],
-    }
-}
+const GRADES: &[u32] = &[0, 15, 19, 20, 21, 24, 25, 45, 50, 51, 55, HUGE];
+const LINKS: &[u32] = &[0, 5, 6, 7, 8, 9, 10, 11, 12, 13, 14, HUGE];
+const LOADS: &[u32] = &[0, 1, 99_999_999, 100_000_000, 100_000_001, HUGE];
+const LENGTHS: &[u32] = &[0, 1, 100_000, 100_001, HUGE];
+const CODES: &[u32] = &[0, 1, 2, 3, HUGE];
+const FLAGS: &[u32] = &[0, 1, 2, HUGE];
+const COUNTS: &[u32] = &[0, 1, 2, 3, 4, 5, HUGE];
+const MESH_DIAMETERS: &[u32] = &[
+    0, 4, 5, 6, 7, 8, 9, 10, 11, 12, 13, 14, 15, 16, 17, 18, 20, 22, 25, 28, 32, 36, 40, 50, HUGE,
+];
+
+/// Values to try in a field.
+type Tried = (usize, &'static [u32]);
+
+const BEAM: &[Tried] = &[
+    (beam::B, &[0, 99, 100, 1000, 1001, HUGE]),
+    (beam::H, &[0, 159, 160, 2000, 2001, HUGE]),
+    (beam::BF, &[0, 99, 100, 3000, 3001, HUGE]),
+    (beam::HF, &[0, 1, 1000, 1001, HUGE]),
+    (beam::AS, &[0, 19, 20, 200, 201, HUGE]),
+    (beam::A2, &[0, 1, 19, 20, 200, 201, HUGE]),
+    (beam::CONCRETE, GRADES),
+    (beam::STEEL, CODES),
+    (beam::TENSION, COUNTS),
+    (beam::COMPRESSION, COUNTS),
+    (beam::LINK, LINKS),
+    (beam::LEGS, &[0, 1, 2, 8, 9, HUGE]),
+    (beam::SPACING, &[0, 49, 50, 400, 401, HUGE]),
+    (beam::LINK_STEEL, CODES),
+    (beam::COVER, &[0, 14, 15, 200, 201, HUGE]),
+    (beam::SPAN, &[0, 999, 1000, 12_000, 12_001, HUGE]),
+    (beam::MOMENT, LOADS),
+    (beam::MOMENT_QUASI, LOADS),
+    (beam::SHEAR, LOADS),
+    (beam::ENVIRONMENT, &[0, 1, 2, 3, 4, HUGE]),
+    (beam::STRICT, FLAGS),
+];
+
+const COLUMN: &[Tried] = &[
+    (column::B, &[0, 299, 300, 1500, 1501, HUGE]),
+    (column::H, &[0, 299, 300, 1500, 1501, HUGE]),
+    (column::CONCRETE, GRADES),
+    (column::STEEL, CODES),
+    (column::GROUPS, COUNTS),
+    (column::LINK, LINKS),
+    (column::SPACING, &[0, 49, 50, 600, 601, HUGE]),
+    (column::LENGTH, &[0, 499, 500, 30_000, 30_001, HUGE]),
+    (column::AXIAL, &[0, 1, 1_000_000_000, 1_000_000_001, HUGE]),
+];
+
+const MESH: &[Tried] = &[
+    (mesh::FAMILY, CODES),
+    (mesh::CONCRETE, GRADES),
+    (mesh::DIAMETER, MESH_DIAMETERS),
+    (mesh::CROSS, FLAGS),
+    (mesh::PAIRED, FLAGS),
+    (mesh::APART, FLAGS),
+    (mesh::SEISMIC, &[0, 1, 2, 3, 4, 5, HUGE]),
+    (mesh::LAP, CODES),
+    (mesh::COMPRESSION, FLAGS),
+    (mesh::ANCHORAGE_GIVEN, LENGTHS),
+    (mesh::LAP_GIVEN, LENGTHS),
+];
 
 /// A record with every tried value in every field, mark and kind included.
 pub fn field_edges(record: &Record) -> Vec<Record> {
     let mut records = Vec::new();
-    for (field, values) in values(record.kind) {
-        records.extend(values.into_iter().map(|value| record.with(field, u64::from(value))));
+    let tried = [BEAM, COLUMN, MESH][record.kind as usize - 1];
+    for &(field, values) in tried {
+        records.extend(values.iter().map(|&value| record.with(field, u64::from(value))));
     }
     for mark in [0, 1, 999_999, 1_000_000, HUGE] {
         records.push(Record { mark, ..record.clone() });
@@ -102,7 +109,9 @@ pub fn group_edges(record: &Record) -> Vec<Record> {
 
 /// Changes several fields at once.
 fn with_all(record: &Record, changes: &[(usize, u32)]) -> Record {
-    changes.iter().fold(record.clone(), |record, &(field, value)| record.with(field, u64::from(value)))
+    changes
+        .iter()
+        .fold(record.clone(), |record, &(field, value)| record.with(field, u64::from(value)))
 }
 
 /// Question 8 at its edges.
@@ -149,16 +158,13 @@ fn bar_lists() -> Vec<Vec<Group>> {
     ]
 }
 
-/// The edges of questions 8 and 9 around an accepted member.
-pub fn question_edges(record: &Record) -> Vec<Record> {
-    let mut records = match record.kind {
-        1 => consistency(record),
-        _ => Vec::new(),
-    };
+/// The record with each of the bar lists as its first or second.
+fn bar_counts(record: &Record) -> Vec<Record> {
+    let mut records = Vec::new();
     for list in bar_lists() {
-        for both in [false, true] {
+        for second in [false, true] {
             let mut changed = record.clone();
-            if both {
+            if second {
                 changed.second.clone_from(&list);
             } else {
                 changed.first.clone_from(&list);
@@ -170,15 +176,21 @@ pub fn question_edges(record: &Record) -> Vec<Record> {
             records.push(changed);
         }
     }
-    if record.kind == 2 {
-        for (b, h) in [(300, 300), (301, 300), (300, 301), (1500, 1499), (1500, 1500)] {
-            records.push(with_all(record, &[(column::B, b), (column::H, h)]));
-        }
-    }
-    if record.kind == 3 {
-        for (cross, apart) in [(0, 0), (0, 1), (1, 0), (1, 1)] {
-            records.push(with_all(record, &[(mesh::CROSS, cross), (mesh::APART, apart)]));
-        }
-    }
+    records
+}
+
+/// The edges of questions 8 and 9 around an accepted member.
+pub fn question_edges(record: &Record) -> Vec<Record> {
+    let pairs = |first, second, values: &[(u32, u32)]| {
+        let changed = values.iter().map(|&(x, y)| with_all(record, &[(first, x), (second, y)]));
+        changed.collect::<Vec<Record>>()
+    };
+    let sides = [(300, 300), (301, 300), (300, 301), (1500, 1499), (1500, 1500)];
+    let mut records = match record.kind {
+        1 => consistency(record),
+        2 => pairs(column::B, column::H, &sides),
+        _ => pairs(mesh::CROSS, mesh::APART, &[(0, 0), (0, 1), (1, 0), (1, 1)]),
+    };
+    records.extend(bar_counts(record));
     records
 }

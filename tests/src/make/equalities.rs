@@ -15,13 +15,15 @@ fn factors(
     y: RangeInclusive<u64>,
     most: usize,
 ) -> Vec<(u64, u64)> {
-    let pairs = x.filter(|&x| product % x == 0).map(|x| (x, product / x));
+    let pairs = x.filter(|&x| product.is_multiple_of(x)).map(|x| (x, product / x));
     pairs.filter(|pair| y.contains(&pair.1)).take(most).collect()
 }
 
 /// Groups of one diameter and 1 to 20 bars.
 fn single_groups() -> impl Iterator<Item = Vec<Group>> {
-    DIAMETERS.into_iter().flat_map(|diameter| (1..=20).map(move |bars| vec![Group { diameter, bars }]))
+    DIAMETERS
+        .into_iter()
+        .flat_map(|diameter| (1..=20).map(move |bars| vec![Group { diameter, bars }]))
 }
 
 /// An unloaded beam with close links.
@@ -35,7 +37,7 @@ fn plain_beam(b: u64, h: u64, grade: u32, steel: u32, tension: &[Group]) -> Reco
 }
 
 fn divided(upper: u64, lower: u64) -> Option<u64> {
-    (upper % lower == 0).then(|| upper / lower)
+    upper.is_multiple_of(lower).then(|| upper / lower)
 }
 
 /// The record and its neighbours in one field.
@@ -84,7 +86,9 @@ fn shallow_depth(records: &mut Vec<Record>) {
             let compression = vec![Group { diameter, bars }];
             for grade in GRADES {
                 let fc = tables::concrete(u64::from(grade)).unwrap().fc;
-                let Some(net) = total(&tension).checked_sub(total(&compression)) else { continue };
+                let Some(net) = total(&tension).checked_sub(total(&compression)) else {
+                    continue;
+                };
                 let product = divided(360 * net, 2 * fc).unwrap_or(1);
                 for (distance, b) in factors(product, 20..=200, 100..=1000, 1) {
                     let mut record = plain_beam(b, 10 * distance + 200, grade, 1, &tension);

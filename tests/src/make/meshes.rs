@@ -34,7 +34,9 @@ pub fn as_mesh(record: &Record) -> Option<Mesh> {
 /// The mesh with its given lengths next to the required ones.
 pub fn hugging_meshes(record: &Record) -> Vec<Record> {
     let mut records = vec![record.clone()];
-    let Some(mesh) = as_mesh(record) else { return records };
+    let Some(mesh) = as_mesh(record) else {
+        return records;
+    };
     let anchorage = mesh.scaled_anchorage().div_ceil(SCALE);
     let lap = mesh.scaled_lap().div_ceil(SCALE);
     for given in around(anchorage) {
@@ -46,5 +48,33 @@ pub fn hugging_meshes(record: &Record) -> Vec<Record> {
     }
     records.push(anchored.with(LAP_GIVEN, 0));
     records.push(record.with(ANCHORAGE_GIVEN, 0));
+    records
+}
+
+/// Each combination of fields, with the required lengths given.
+pub fn every_mesh() -> Vec<Record> {
+    let mut records = Vec::new();
+    // Mixed radix: family, concrete, diameter, cross and apart, paired, seismic, lap, compression.
+    for number in 0..2 * 7 * 7 * 3 * 2 * 5 * 2 * 2 {
+        let mut rest = number;
+        let mut digit = |base: usize| {
+            let digit = rest % base;
+            rest /= base;
+            digit
+        };
+        let mut record = Record::mesh(1, [0; 11]);
+        record.fields[FAMILY] = 1 + digit(2) as u32;
+        record.fields[CONCRETE] = GRADES[digit(7)];
+        record.fields[DIAMETER] = [5, 6, 8, 10, 12, 14, 16][digit(7)];
+        (record.fields[CROSS], record.fields[APART]) = [(0, 0), (0, 1), (1, 0)][digit(3)];
+        record.fields[PAIRED] = digit(2) as u32;
+        record.fields[SEISMIC] = digit(5) as u32;
+        record.fields[LAP] = 1 + digit(2) as u32;
+        record.fields[COMPRESSION] = digit(2) as u32;
+        let mesh = as_mesh(&record).expect("a mesh");
+        record.fields[ANCHORAGE_GIVEN] = mesh.scaled_anchorage().div_ceil(SCALE) as u32;
+        record.fields[LAP_GIVEN] = mesh.scaled_lap().div_ceil(SCALE) as u32;
+        records.push(record);
+    }
     records
 }

@@ -140,7 +140,9 @@ impl Record {
     pub fn numbers(&self) -> Vec<u32> {
         let mut numbers = vec![self.mark, self.kind];
         let lists = match self.kind {
-            1 => vec![(place::beam::TENSION, &self.first), (place::beam::COMPRESSION, &self.second)],
+            1 => {
+                vec![(place::beam::TENSION, &self.first), (place::beam::COMPRESSION, &self.second)]
+            }
             2 => vec![(place::column::GROUPS, &self.first)],
             _ => Vec::new(),
         };

@@ -20,7 +20,9 @@ fn cases(record: &Record) -> Option<Vec<Case>> {
 /// Keeps the records that reach a case which is still open.
 fn keep(records: Vec<Record>, open: &mut BTreeSet<Case>, kept: &mut Vec<Record>) {
     for record in records {
-        let Some(cases) = cases(&record) else { continue };
+        let Some(cases) = cases(&record) else {
+            continue;
+        };
         if cases.iter().filter(|case| open.remove(case)).count() > 0 {
             kept.push(record);
         }

@@ -196,8 +196,7 @@ impl Beam {
     /// 5.5.6r: least links where V asks for them.
     pub fn has_minimum_links(&self) -> bool {
         !self.needs_links()
-            || 1000 * self.link_area() * self.fyv
-                >= 24 * self.concrete.ft * self.b * self.spacing
+            || 1000 * self.link_area() * self.fyv >= 24 * self.concrete.ft * self.b * self.spacing
     }
 
     /// 4.4.1: steel stress at most fyk.
@@ -211,19 +210,16 @@ impl Beam {
         let area = self.tension.area;
         let stress = (10_000_000_000 * self.moment_quasi).div_ceil(87 * self.h0() * area);
         let relief = 325 * self.concrete.ftk * self.doubled_tension_area() / area;
-        let reduced = (11 * stress)
-            .div_ceil(10)
-            .saturating_sub(relief)
-            .max(stress.div_ceil(5))
-            .min(stress);
+        let reduced =
+            (11 * stress).div_ceil(10).saturating_sub(relief).max(stress.div_ceil(5)).min(stress);
         Cracked { stress, reduced }
     }
 
     /// 4.4.2: crack width, 0.001 mm.
     pub fn crack_width(&self, cracked: &Cracked) -> u64 {
         let bars = &self.tension;
-        let spread = (40 * bars.squares * self.doubled_tension_area())
-            .div_ceil(bars.diameters * bars.area);
+        let spread =
+            (40 * bars.squares * self.doubled_tension_area()).div_ceil(bars.diameters * bars.area);
         let k = 190 * self.cover.clamp(20, 65) + spread;
         (19 * cracked.reduced * k).div_ceil(2_000_000_000)
     }

@@ -50,8 +50,7 @@ impl Mesh {
 
     /// The row's multiple of d with its factors, at least 200, times the seismic factor.
     fn basic_length(&self, cross_bar: bool, apart: bool) -> u64 {
-        let multiple =
-            tables::anchorage_multiple(self.family, cross_bar, self.concrete.grade);
+        let multiple = tables::anchorage_multiple(self.family, cross_bar, self.concrete.grade);
         let mut length = SCALE * multiple * self.diameter;
         if self.paired {
             length = length / 10 * 14;

@@ -65,11 +65,7 @@ impl Writer<'_> {
 }
 
 /// Writes a text of at most `longest` bytes into `out`, or answers None and leaves `out` alone.
-fn write_whole(
-    out: &mut [u8],
-    longest: usize,
-    write: impl Fn(&mut Writer),
-) -> Option<usize> {
+fn write_whole(out: &mut [u8], longest: usize, write: impl Fn(&mut Writer)) -> Option<usize> {
     if out.len() >= longest {
         let mut writer = Writer { out, length: 0 };
         write(&mut writer);

@@ -53,7 +53,7 @@ static CONCRETES: [Concrete; 7] = [
 
 /// The row of a grade 20, 25 .. 50.
 pub fn concrete(grade: u64) -> Option<&'static Concrete> {
-    if grade % 5 != 0 || !(20..=50).contains(&grade) {
+    if !grade.is_multiple_of(5) || !(20..=50).contains(&grade) {
         return None;
     }
     CONCRETES.get((grade / 5 - 4) as usize)
@@ -97,9 +97,8 @@ pub fn is_link_diameter(diameter: u64) -> bool {
 }
 
 /// Stability factor φ, hundredths, at l0/b = 8, 10 .. 50 (4.2.4).
-pub const STABILITY: [u64; 22] = [
-    100, 98, 95, 92, 87, 81, 75, 70, 65, 60, 56, 52, 48, 44, 40, 36, 32, 29, 26, 23, 21, 19,
-];
+pub const STABILITY: [u64; 22] =
+    [100, 98, 95, 92, 87, 81, 75, 70, 65, 60, 56, 52, 48, 44, 40, 36, 32, 29, 26, 23, 21, 19];
 
 /// Anchorage multiples of d at C20, 25, 30, 35, 40 and above, by family and cross bar (5.2.5).
 pub fn anchorage_multiple(family: u64, cross_bar: bool, grade: u64) -> u64 {
