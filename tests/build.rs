@@ -11,9 +11,11 @@ fn main() {
         .unwrap_or_else(|_| manifest.join("../target/staticlib"));
     let archive = directory.join("libkoxaltes.a");
     println!("cargo:rerun-if-changed={}", archive.display());
-    if archive.exists() {
-        for program in ["compare", "bench"] {
-            println!("cargo:rustc-link-arg-bin={program}={}", archive.display());
-        }
+    if !archive.exists() {
+        println!("cargo:warning=no {}: compare and bench will not link", archive.display());
+        return;
+    }
+    for program in ["compare", "bench"] {
+        println!("cargo:rustc-link-arg-bin={program}={}", archive.display());
     }
 }

@@ -2,6 +2,7 @@
 
 use std::collections::BTreeMap;
 
+use crate::make::hunts::turns_on_u;
 use crate::model::beam::Beam;
 use crate::model::column::Column;
 use crate::model::member::{Body, Member};
@@ -111,6 +112,8 @@ impl Tally {
         self.add_if(!doubled, "4.2.2 without compression bars", 0);
         self.add_if(doubled && net > edge, "4.2.2 with compression bars", 0);
         self.add_if(doubled && net == edge, "4.2.2 at t = 2a'k", 0);
+        let failed = capacity < beam.moment;
+        self.add_if(doubled && net == edge && failed, "4.2.2 failed at t = 2a'k", 0);
         self.add_if(doubled && net < edge, "4.2.3 reached", 0);
         self.add_if(net < 0, "4.2.3 with t below 0", 0);
         self.add("steel code, fyk", beam.steel.fyk);
@@ -129,6 +132,13 @@ impl Tally {
         };
         self.add_if(beam.spacing == limit, names[0], row(beam.h));
         self.add_if(beam.spacing == limit + 1, names[1], row(beam.h));
+        let height = if beam.needs_links() {
+            "5.5.6s links needed, one above, h"
+        } else {
+            "5.5.6s otherwise, one above, h"
+        };
+        let edge = [300, 301, 500, 501, 800, 801].contains(&beam.h);
+        self.add_if(edge && beam.spacing == limit + 1, height, beam.h);
         self.add_if(1000 * beam.shear == beam.concrete_shear(), "V at 0.7 ft b h0", 0);
         self.add("link steel, fyv", beam.fyv);
         if outcome.failed == Some(Check::LinkSpacing) {
@@ -185,6 +195,7 @@ impl Tally {
         self.add(flange, share);
         let limit = 100 * beam.span / beam.deflection_divisor();
         self.add_if(deflection == limit, "4.5.1 at limit", 0);
+        self.add_if(turns_on_u(beam), "4.5.1 by the rounding of u", 0);
         self.add_if(deflection == limit + 1, "4.5.1 one above", 0);
     }
 
@@ -288,7 +299,7 @@ pub fn required() -> Vec<Case> {
 }
 
 /// Cases of beams without variants.
-const BEAM_CASES: [&str; 22] = [
+const BEAM_CASES: [&str; 24] = [
     "6.3.1 at 0.2 percent",
     "6.3.1 at 45 ft/fy",
     "6.3.1 by 45 ft/fy",
@@ -310,6 +321,8 @@ const BEAM_CASES: [&str; 22] = [
     "4.4.1 at",
     "4.4.2 with flange",
     "4.5.1 at limit",
+    "4.5.1 by the rounding of u",
+    "4.2.2 failed at t = 2a'k",
     "4.5.1 one above",
 ];
 
@@ -325,6 +338,8 @@ fn put_beam_cases(put: &mut impl FnMut(&'static str, &[u64])) {
     put("5.5.6s otherwise, at", &[300, 500, 800, 801]);
     // The last row's limit is the field's largest value.
     put("5.5.6s otherwise, one above", &[300, 500, 800]);
+    put("5.5.6s links needed, one above, h", &[300, 301, 500, 501, 800, 801]);
+    put("5.5.6s otherwise, one above, h", &[300, 301, 500, 501, 800]);
     put("psi, tenths (5: between)", &[2, 5, 10]);
     put("cover held (0 below 20, 2 above 65)", &[0, 1, 2]);
     put("4.4.2 environment", &[1, 2, 3]);

@@ -5,6 +5,7 @@ pub mod columns;
 pub mod damage;
 pub mod edges;
 pub mod equalities;
+pub mod hunts;
 pub mod meshes;
 pub mod random;
 pub mod record;

@@ -2,7 +2,7 @@
 
 use crate::comparison::{Checker, Comparison};
 use crate::make::{
-    self, beams, columns, damage, edges, encode, equalities, meshes, Random, Record,
+    self, beams, columns, damage, edges, encode, equalities, hunts, meshes, Random, Record,
 };
 use crate::model::built::Group;
 
@@ -17,6 +17,7 @@ pub fn all<C: Checker>(
     random_schedules(comparison, random, 6000 * multiplier)?;
     hugging_schedules(comparison, random, 4000 * multiplier)?;
     equality_schedules(comparison, random)?;
+    together(comparison, random, hunts::hunts(random, 20 * multiplier as usize))?;
     every_mesh(comparison, random)?;
     every_slenderness(comparison, random)?;
     edge_members(comparison, random, 3 * multiplier)?;
@@ -30,6 +31,7 @@ pub fn quick<C: Checker>(comparison: &mut Comparison<C>, random: &Random) -> Out
     random_schedules(comparison, random, 100)?;
     hugging_schedules(comparison, random, 500)?;
     equality_schedules(comparison, random)?;
+    together(comparison, random, hunts::hunts(random, 1))?;
     every_mesh(comparison, random)?;
     every_slenderness(comparison, random)?;
     built_members(comparison, random, 100)

@@ -46,7 +46,11 @@ pub fn total(groups: &[Group]) -> u64 {
 fn random_section(random: &Random) -> Record {
     let mut record = Record::beam(1, [0; 8], &[], &[], [0; 11]);
     let b = random.within(100, if random.one_in(3) { 1000 } else { 450 });
-    let h = random.within(160, if random.one_in(2) { 2000 } else { 900 });
+    let h = match random.below(4) {
+        0 => random.pick(&[300, 301, 500, 501, 800, 801]),
+        1 => random.within(160, 900),
+        _ => random.within(160, 2000),
+    };
     let doubled = random.one_in(2);
     let most = (h / 2 - if doubled { 20 } else { 0 }).min(200);
     let cover_tension = random.within(20, if random.one_in(3) { most } else { most.min(60) });
@@ -150,7 +154,7 @@ pub fn around(value: u64) -> [u64; 3] {
 }
 
 /// The largest Mq at which none of the checks fails, where the checks before them hold.
-fn largest_quasi(beam: &Beam, checks: &[Check]) -> u64 {
+pub fn largest_quasi(beam: &Beam, checks: &[Check]) -> u64 {
     let holds = |moment_quasi| {
         let outcome: Outcome = Beam { moment_quasi, ..*beam }.check();
         !outcome.failed.is_some_and(|failed| checks.contains(&failed))

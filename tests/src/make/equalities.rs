@@ -2,7 +2,7 @@
 
 use std::ops::RangeInclusive;
 
-use super::beams::{around, total, DIAMETERS, GRADES};
+use super::beams::{around, as_beam, total, DIAMETERS, GRADES};
 use super::record::place::{beam, column};
 use super::record::Record;
 use crate::model::built::Group;
@@ -96,6 +96,10 @@ fn shallow_depth(records: &mut Vec<Record>) {
                     record.count_groups();
                     record.fields[beam::A2] = distance as u32;
                     record.fields[beam::H] = record.fields[beam::H].min(2000);
+                    if let Some(beam) = as_beam(&record) {
+                        let above = beam.moment_capacity() + 1;
+                        records.push(record.with(beam::MOMENT, above));
+                    }
                     spread(record, beam::A2, records);
                 }
             }
@@ -103,15 +107,21 @@ fn shallow_depth(records: &mut Vec<Record>) {
     }
 }
 
-/// 5.5.6r at equality: 1000·L·fyv = 24·ft·b·s, with V one above the concrete's share.
+/// 5.5.6r at and next to equality: 1000·L·fyv = 24·ft·b·s, with V one above the concrete's share.
 fn link_ratio(records: &mut Vec<Record>) {
     for (link, legs) in [6, 8, 10, 12].into_iter().flat_map(|d| (2..=8).map(move |n| (d, n))) {
         for (grade, code) in GRADES.into_iter().flat_map(|grade| [(grade, 1), (grade, 2)]) {
             let ft = tables::concrete(u64::from(grade)).unwrap().ft;
             let area = legs * tables::area(link).unwrap();
             let product = 1000 * area * tables::link_steel(code).unwrap();
-            let product = divided(product, 24 * ft).unwrap_or(1);
-            for (spacing, b) in factors(product, 50..=300, 100..=1000, 2) {
+            let equal = divided(product, 24 * ft).unwrap_or(1);
+            let mut pairs = factors(equal, 50..=300, 100..=1000, 2);
+            for spacing in [50, 87, 149, 200, 300] {
+                let b = product / (24 * ft * spacing);
+                pairs.extend([(spacing, b), (spacing, b + 1)]);
+            }
+            pairs.retain(|(_, b)| (100..=1000).contains(b));
+            for (spacing, b) in pairs {
                 let tension = [Group { diameter: 25, bars: 20 }];
                 let mut record = plain_beam(b, 1000, grade, 1, &tension);
                 record.fields[beam::LINK] = link as u32;

@@ -2,7 +2,7 @@
 
 use std::collections::BTreeSet;
 
-use super::{encode, equalities, hugging_members, random_member, renumber, Random, Record};
+use super::{encode, equalities, hugging_members, hunts, random_member, renumber, Random, Record};
 use crate::branches::{required, Case, Tally};
 use crate::model::report;
 
@@ -34,6 +34,7 @@ pub fn members(random: &Random) -> Vec<Record> {
     let mut open: BTreeSet<Case> = required().into_iter().collect();
     let mut kept = Vec::new();
     keep(equalities::equalities(), &mut open, &mut kept);
+    keep(hunts::hunts(random, 1), &mut open, &mut kept);
     for _ in 0..20_000 {
         keep(hugging_members(random), &mut open, &mut kept);
         if open.is_empty() {
