@@ -1,0 +1,153 @@
+//! Times the static library against the model on the same inputs, and its stack use.
+
+use std::hint::black_box;
+
+use koxaltes_tests::comparison::{Checker, Comparison, Library, Model};
+use koxaltes_tests::make::{self, encode, Random, Record};
+use koxaltes_tests::measure::{interleaved, stack_use, Timing};
+
+const ROOM: usize = 64_000;
+
+/// Members that are accepted and wanted, with rising marks.
+fn chosen(random: &Random, count: usize, wanted: impl Fn(&Record) -> bool) -> Vec<Record> {
+    let mut records = Vec::new();
+    while records.len() < count {
+        let record = make::random_member(random);
+        if wanted(&record) && record.read().is_some() {
+            records.push(record);
+        }
+    }
+    make::renumber(random, &mut records);
+    records
+}
+
+/// Whether a record is of the kind and passes all its checks, so that all figures are worked.
+fn passes(record: &Record, kind: u32) -> bool {
+    record.kind == kind && record.read().is_some_and(|member| member.check().failed.is_none())
+}
+
+/// The inputs by name, with the number of members to divide by.
+fn inputs(random: &Random) -> Vec<(&'static str, Vec<u8>, usize)> {
+    let mixed = encode(&chosen(random, 500, |_| true));
+    let of_kind = |kind, count| encode(&chosen(random, count, |record| passes(record, kind)));
+    let mut many = mixed.clone();
+    many[0] |= 0x7f;
+    let mut unfinished = mixed.clone();
+    *unfinished.last_mut().expect("not empty") |= 0x80;
+    vec![
+        ("(a) 500 members of mixed kinds", mixed, 500),
+        ("(b) 1 beam, OK", of_kind(1, 1), 1),
+        ("(b) 1 column, OK", of_kind(2, 1), 1),
+        ("(b) 1 mesh, OK", of_kind(3, 1), 1),
+        ("(c) refused at the count (511)", many, 1),
+        ("(d) 500 members, refused at the last byte", unfinished, 500),
+        ("(e) 500 beams, OK", of_kind(1, 500), 500),
+        ("(f) 500 columns, OK", of_kind(2, 500), 500),
+        ("(g) 500 meshes, OK", of_kind(3, 500), 500),
+    ]
+}
+
+fn print_row(name: &str, members: usize, timing: &Timing) {
+    let each = members as f64;
+    println!(
+        "{name:44} {:11.1} {:11.1} {:9.1} {:9.1} {:6.2} {:11.1} {:11.1} {:6.2}",
+        timing.first,
+        timing.second,
+        timing.first / each,
+        timing.second / each,
+        timing.ratio,
+        timing.first_least,
+        timing.second_least,
+        timing.first_least / timing.second_least
+    );
+}
+
+fn time_schedule(name: &str, bytes: &[u8], members: usize) {
+    let (mut left, mut right) = (vec![0; ROOM], vec![0; ROOM]);
+    let timing = interleaved(
+        &mut || {
+            let _ = black_box(Library.report(black_box(bytes), black_box(&mut left)));
+        },
+        &mut || {
+            let _ = black_box(Model.report(black_box(bytes), black_box(&mut right)));
+        },
+    );
+    print_row(name, members, &timing);
+}
+
+fn time_built(name: &str, record: &Record) {
+    let (mut left, mut right) = ([0; 200], [0; 200]);
+    let built = record.built();
+    let line = |checker: &dyn Checker, out: &mut [u8]| {
+        let built = black_box(&built);
+        let _ = black_box(checker.member_report(built, &record.first, &record.second, out));
+    };
+    let timing = interleaved(&mut || line(&Library, &mut left), &mut || line(&Model, &mut right));
+    print_row(&format!("built {name}, line"), 1, &timing);
+    let share = |checker: &dyn Checker| {
+        let built = black_box(&built);
+        black_box(checker.member_utilization(built, &record.first, &record.second));
+    };
+    let timing = interleaved(&mut || share(&Library), &mut || share(&Model));
+    print_row(&format!("built {name}, utilization"), 1, &timing);
+}
+
+fn print_stack(schedules: &[(&str, Vec<u8>, usize)], records: &[(&str, Record)]) {
+    let mut out = vec![0; ROOM];
+    println!("\nstack overwritten by a call, bytes (the caller's frame included)");
+    println!("{:44} {:>12} {:>12}", "", "library", "model");
+    let empty = stack_use(&mut || ());
+    println!("{:44} {empty:12} {empty:12}", "no call");
+    for (name, bytes, _) in schedules {
+        let mut of = |checker: &dyn Checker| {
+            stack_use(&mut || {
+                let _ = black_box(checker.report(bytes, &mut out));
+            })
+        };
+        println!("{name:44} {:12} {:12}", of(&Library), of(&Model));
+    }
+    for (name, record) in records {
+        let (built, first, second) = (record.built(), &record.first, &record.second);
+        let mut of = |checker: &dyn Checker| {
+            stack_use(&mut || {
+                let _ = black_box(checker.member_report(&built, first, second, &mut out));
+            })
+        };
+        println!("built {name:38} {:12} {:12}", of(&Library), of(&Model));
+        let of = |checker: &dyn Checker| {
+            stack_use(&mut || {
+                black_box(checker.member_utilization(&built, first, second));
+            })
+        };
+        let name = format!("built {name}, utilization");
+        println!("{name:44} {:12} {:12}", of(&Library), of(&Model));
+    }
+}
+
+fn main() {
+    let random = Random::new(1);
+    let schedules = inputs(&random);
+    let one = |kind| chosen(&random, 1, |record| passes(record, kind)).remove(0);
+    let records = [("beam", one(1)), ("column", one(2)), ("mesh", one(3))];
+    let mut comparison = Comparison::new(Library, &random);
+    for (_, bytes, _) in &schedules {
+        comparison.schedule(bytes).expect("equal outputs");
+    }
+    for (_, record) in &records {
+        comparison.built(record).expect("equal outputs");
+    }
+    println!("outputs are equal; short rounds, interleaved; no buffer is cleared between calls");
+    println!("the library allocates nothing: it links no allocator; the model keeps one Vec");
+    println!("ns per call and per member: medians, then the least of the rounds");
+    println!(
+        "{:44} {:>11} {:>11} {:>9} {:>9} {:>6} {:>11} {:>11} {:>6}",
+        "", "library", "model", "/member", "/member", "ratio", "library", "model", "ratio"
+    );
+    for (name, bytes, members) in &schedules {
+        time_schedule(name, bytes, *members);
+    }
+    for (name, record) in &records {
+        time_built(name, record);
+    }
+    print_stack(&schedules, &records);
+}

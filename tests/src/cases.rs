@@ -1,0 +1,133 @@
+//! Document 01's printed schedule and tabled cases.
+
+use crate::make::{encode, Record};
+use crate::model::member::{Body, Member};
+use crate::model::report::{refusal_text, report};
+use crate::model::schedule;
+
+/// The report program's output.
+fn printed(schedule: &[u8]) -> String {
+    let mut out = [0; 1000];
+    match report(schedule, &mut out) {
+        Ok(length) => String::from_utf8(out[..length].to_vec()).unwrap(),
+        Err(refusal) => refusal_text(refusal),
+    }
+}
+
+fn line(record: &Record) -> String {
+    printed(&encode(std::slice::from_ref(record))).lines().nth(1).unwrap().to_string()
+}
+
+fn member(record: &Record) -> Member {
+    schedule::read(&encode(std::slice::from_ref(record))).unwrap()[0]
+}
+
+fn beam() -> Record {
+    Record::beam(
+        1,
+        [250, 500, 250, 0, 40, 0, 30, 1],
+        &[(20, 4)],
+        &[],
+        [8, 2, 200, 1, 30, 6000, 150_000, 90_000, 120_000, 1, 0],
+    )
+}
+
+fn column() -> Record {
+    Record::column(2, [400, 400, 30, 1], &[(20, 8)], [8, 250, 4000, 2_500_000])
+}
+
+fn mesh() -> Record {
+    Record::mesh(3, [1, 30, 10, 1, 0, 0, 3, 1, 0, 270, 350])
+}
+
+#[test]
+fn printed_schedule() {
+    let expected = "members 3\n1 OK 179495 177587 172 1885\n2 OK 2816134 - - -\n3 OK 263 342 - -\n";
+    assert_eq!(printed(&encode(&[beam(), column(), mesh()])), expected);
+    assert_eq!(printed(&[0]), "members 0\n");
+}
+
+#[test]
+fn refusals() {
+    let mut narrow = column();
+    narrow.fields[0] = 299;
+    assert_eq!(printed(&encode(&[beam(), narrow, mesh()])), "refused 7 member 2\n");
+    assert_eq!(printed(&[]), "refused 2 member 0\n");
+    assert_eq!(printed(&[0x80, 0]), "refused 3 member 0\n");
+    assert_eq!(printed(&[0x80; 4]), "refused 2 member 0\n");
+    assert_eq!(printed(&[0x80; 5]), "refused 3 member 0\n");
+    assert_eq!(printed(&[0xff, 0xff, 0xff, 0xff, 0x0f]), "refused 4 member 0\n");
+    assert_eq!(printed(&[0xff, 0xff, 0xff, 0xff, 0x10]), "refused 3 member 0\n");
+    assert_eq!(printed(&[0xf5, 3]), "refused 4 member 0\n");
+    assert_eq!(printed(&[0xf4, 3]), "refused 2 member 1\n");
+    assert_eq!(printed(&[0, 0]), "refused 11 member 0\n");
+    assert_eq!(printed(&[0; 60_000]), "refused 11 member 0\n");
+    assert_eq!(printed(&[0; 60_001]), "refused 1 member 0\n");
+}
+
+#[test]
+fn short_buffer() {
+    let schedule = encode(&[beam(), column(), mesh()]);
+    let text = printed(&schedule);
+    let mut out = vec![7; text.len() - 1];
+    let refusal = report(&schedule, &mut out).unwrap_err();
+    assert_eq!((refusal.question, refusal.member), (12, 0));
+    assert!(out.iter().all(|&byte| byte == 7));
+    let mut out = vec![7; text.len()];
+    assert_eq!(report(&schedule, &mut out), Ok(text.len()));
+    assert_eq!(out, text.as_bytes());
+}
+
+#[test]
+fn shear() {
+    let mut record = beam();
+    record.fields[18] = 177_587;
+    assert!(line(&record).starts_with("1 OK "));
+    record.fields[18] = 177_588;
+    assert_eq!(line(&record), "1 4.3.3 179495 177587 - -");
+}
+
+#[test]
+fn spacing() {
+    let mut record = beam();
+    record.fields[12] = 201;
+    assert_eq!(line(&record), "1 5.5.6s 179495 177276 - -");
+}
+
+#[test]
+fn axial() {
+    let mut record = column();
+    record.fields[8] = 2_816_134;
+    assert_eq!(line(&record), "2 OK 2816134 - - -");
+    record.fields[8] = 2_816_135;
+    assert_eq!(line(&record), "2 4.2.4 2816134 - - -");
+}
+
+#[test]
+fn lap() {
+    let mut record = mesh();
+    record.fields[10] = 341;
+    assert_eq!(line(&record), "3 5.3.7 263 342 - -");
+}
+
+#[test]
+fn slenderness() {
+    let mut record = column();
+    for (length, hundredths) in [(3200, 100), (20_000, 19)] {
+        record.fields[7] = length;
+        let Body::Column(column) = member(&record).body else { panic!() };
+        assert_eq!(column.stability(), hundredths * 2 * column.b);
+    }
+    record.fields[7] = 20_001;
+    assert_eq!(line(&record), "2 4.2.4s - - - -");
+}
+
+#[test]
+fn span_limits() {
+    let mut record = beam();
+    for (span, limit) in [(6999, 3499), (7000, 2800), (9000, 3600), (9001, 3000)] {
+        record.fields[15] = span;
+        let Body::Beam(beam) = member(&record).body else { panic!() };
+        assert_eq!(100 * beam.span / beam.deflection_divisor(), limit);
+    }
+}

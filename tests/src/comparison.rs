@@ -1,0 +1,301 @@
+//! Holds a checker against the model: answers, whole buffers, utilizations, and demand 3.
+
+use crate::branches::Tally;
+use crate::claim;
+use crate::guard::Guarded;
+use crate::library::{self, Utilization};
+use crate::make::{encode, Random, Record};
+use crate::model::built::{self, Built, Group};
+use crate::model::member::Member;
+use crate::model::outcome::{Check, Outcome};
+use crate::model::report;
+use crate::model::schedule::{self, Refusal};
+use crate::model::utilization;
+
+/// The three entries that are compared.
+pub trait Checker {
+    fn report(&self, schedule: &[u8], out: &mut [u8]) -> Result<usize, Refusal>;
+    fn member_report(
+        &self,
+        built: &Built,
+        first: &[Group],
+        second: &[Group],
+        out: &mut [u8],
+    ) -> Result<usize, Refusal>;
+    fn member_utilization(&self, built: &Built, first: &[Group], second: &[Group]) -> Utilization;
+}
+
+/// The static library.
+pub struct Library;
+
+impl Checker for Library {
+    fn report(&self, schedule: &[u8], out: &mut [u8]) -> Result<usize, Refusal> {
+        library::report(schedule, out)
+    }
+
+    fn member_report(
+        &self,
+        built: &Built,
+        first: &[Group],
+        second: &[Group],
+        out: &mut [u8],
+    ) -> Result<usize, Refusal> {
+        library::member_report(built, first, second, out)
+    }
+
+    fn member_utilization(&self, built: &Built, first: &[Group], second: &[Group]) -> Utilization {
+        library::member_utilization(built, first, second)
+    }
+}
+
+/// The model itself.
+pub struct Model;
+
+impl Checker for Model {
+    fn report(&self, schedule: &[u8], out: &mut [u8]) -> Result<usize, Refusal> {
+        report::report(schedule, out)
+    }
+
+    fn member_report(
+        &self,
+        built: &Built,
+        first: &[Group],
+        second: &[Group],
+        out: &mut [u8],
+    ) -> Result<usize, Refusal> {
+        report::member_report(built, first, second, out)
+    }
+
+    fn member_utilization(&self, built: &Built, first: &[Group], second: &[Group]) -> Utilization {
+        Utilization::expected(utilization::member_utilization(built, first, second))
+    }
+}
+
+/// Numbers of answers: by question, and 0 for a written text.
+pub type Answers = [u64; 13];
+
+/// A comparison under way; each method yields a description of the first difference.
+pub struct Comparison<'a, C> {
+    checker: C,
+    random: &'a Random,
+    junk: Vec<u8>,
+    /// Where the checker's inputs lie: a schedule or the two lists, then the output.
+    guards: [Guarded; 3],
+    pub tally: Tally,
+    pub schedules: u64,
+    pub members: u64,
+    pub built: u64,
+    pub calls: u64,
+    pub schedule_answers: Answers,
+    pub built_answers: Answers,
+    pub utilization_answers: Answers,
+}
+
+/// Longer than any report and any compared schedule.
+const LONGEST: usize = 128_000;
+
+/// The question answered no, or 0.
+fn question(answer: Result<usize, Refusal>) -> usize {
+    answer.map_or_else(|refusal| refusal.question as usize, |_| 0)
+}
+
+fn hex(bytes: &[u8]) -> String {
+    bytes.iter().map(|byte| format!("{byte:02x}")).collect()
+}
+
+fn shown(answer: Result<usize, Refusal>, buffer: &[u8]) -> String {
+    match answer {
+        Ok(length) => {
+            let text = String::from_utf8_lossy(&buffer[..length.min(buffer.len())]).into_owned();
+            format!("{length} bytes:\n{text}")
+        }
+        Err(Refusal { question, member }) => format!("refused {question} member {member}"),
+    }
+}
+
+/// A difference between two answers or buffers, if there is one.
+fn difference(
+    input: impl Fn() -> String,
+    model: (Result<usize, Refusal>, &[u8]),
+    checker: (Result<usize, Refusal>, &[u8]),
+) -> Result<(), String> {
+    if model == checker {
+        return Ok(());
+    }
+    let at = model.1.iter().zip(checker.1).position(|(a, b)| a != b);
+    Err(format!(
+        "{}\nroom {}\nmodel: {}\nchecker: {}\nbuffers differ first at {at:?}",
+        input(),
+        model.1.len(),
+        shown(model.0, model.1),
+        shown(checker.0, checker.1)
+    ))
+}
+
+impl<'a, C: Checker> Comparison<'a, C> {
+    pub fn new(checker: C, random: &'a Random) -> Self {
+        Comparison {
+            checker,
+            random,
+            junk: random.junk(2 * LONGEST),
+            guards: std::array::from_fn(|_| Guarded::new(LONGEST)),
+            tally: Tally::default(),
+            schedules: 0,
+            members: 0,
+            built: 0,
+            calls: 0,
+            schedule_answers: [0; 13],
+            built_answers: [0; 13],
+            utilization_answers: [0; 13],
+        }
+    }
+
+    /// A buffer filled with junk.
+    fn buffer(&self, room: usize) -> Vec<u8> {
+        let start = self.random.below((self.junk.len() - room) as u64 + 1) as usize;
+        self.junk[start..start + room].to_vec()
+    }
+
+    /// Rooms to try for a text of this length: enough, exact, one less, none, more.
+    fn rooms(&self, length: usize) -> Vec<usize> {
+        let between = self.random.below(length as u64) as usize;
+        let beyond = length + 1 + self.random.below(300) as usize;
+        vec![length, length - 1, 0, between, beyond, LONGEST.min(length * 100)]
+    }
+
+    /// One schedule with every room.
+    pub fn schedule(&mut self, bytes: &[u8]) -> Result<(), String> {
+        self.schedules += 1;
+        let mut text = self.buffer(LONGEST);
+        let answer = report::report(bytes, &mut text);
+        let rooms = match answer {
+            Ok(length) => self.rooms(length),
+            Err(_) => vec![self.random.below(400) as usize],
+        };
+        for room in rooms {
+            self.schedule_in(bytes, room)?;
+        }
+        answer.map_or(Ok(()), |length| self.accepted(bytes, &text[..length]))
+    }
+
+    /// One schedule with a buffer of this length.
+    fn schedule_in(&mut self, bytes: &[u8], room: usize) -> Result<(), String> {
+        let mut expected = self.buffer(room);
+        let [source, out, _] = &mut self.guards;
+        let source = source.copy(bytes);
+        let found = out.copy(&expected);
+        let model = report::report(bytes, &mut expected);
+        let checker = self.checker.report(source, found);
+        self.calls += 1;
+        self.schedule_answers[question(model)] += 1;
+        let input = || format!("schedule {}", hex(bytes));
+        difference(input, (model, &expected), (checker, found))?;
+        if bytes == source {
+            Ok(())
+        } else {
+            Err(format!("{} was changed", input()))
+        }
+    }
+
+    /// Demand 3 of an accepted schedule's text, and the cases that it reached.
+    fn accepted(&mut self, bytes: &[u8], text: &[u8]) -> Result<(), String> {
+        let members = schedule::read(bytes).map_err(|_| "refused after all".to_string())?;
+        self.members += members.len() as u64;
+        for member in &members {
+            self.tally.note(member, &member.check());
+        }
+        claim::check_report(&members, text).map_err(|reason| {
+            let text = String::from_utf8_lossy(text);
+            format!("demand 3: {reason}\nschedule {}\n{text}", hex(bytes))
+        })
+    }
+
+    /// A schedule of these records.
+    pub fn records(&mut self, records: &[Record]) -> Result<(), String> {
+        self.schedule(&encode(records))
+    }
+
+    /// One built member with every room, and its utilization.
+    pub fn built(&mut self, record: &Record) -> Result<(), String> {
+        self.built += 1;
+        let built = record.built();
+        let (first, second) = (record.first.as_slice(), record.second.as_slice());
+        let mut text = self.buffer(200);
+        let answer = report::member_report(&built, first, second, &mut text);
+        let rooms = match answer {
+            Ok(length) => self.rooms(length),
+            Err(_) => vec![self.random.below(200) as usize],
+        };
+        for room in rooms {
+            self.built_in(record, room)?;
+        }
+        if let Ok(length) = answer {
+            let line = String::from_utf8_lossy(&text[..length - 1]).into_owned();
+            let member = built::read(&built, first, second).map_err(|_| "refused after all")?;
+            claim::check_line(&member, &line)
+                .map_err(|reason| format!("demand 3: {reason}\n{record:?}\n{line}"))?;
+        }
+        self.utilization(record)
+    }
+
+    /// One built member with a buffer of this length.
+    fn built_in(&mut self, record: &Record, room: usize) -> Result<(), String> {
+        let built = record.built();
+        let mut expected = self.buffer(room);
+        let [first, second, out] = &mut self.guards;
+        let (first, second) = (first.copy(&record.first), second.copy(&record.second));
+        let found = out.copy(&expected);
+        let model = report::member_report(&built, &record.first, &record.second, &mut expected);
+        let checker = self.checker.member_report(&built, first, second, found);
+        self.calls += 1;
+        self.built_answers[question(model)] += 1;
+        difference(|| format!("{record:?}"), (model, &expected), (checker, found))
+    }
+
+    fn utilization(&mut self, record: &Record) -> Result<(), String> {
+        let built = record.built();
+        let [first, second, _] = &mut self.guards;
+        let (first, second) = (first.copy(&record.first), second.copy(&record.second));
+        let model = Utilization::expected(utilization::member_utilization(&built, first, second));
+        let checker = self.checker.member_utilization(&built, first, second);
+        self.calls += 1;
+        self.utilization_answers[model.question as usize] += 1;
+        if model != checker {
+            return Err(format!("{record:?}\nmodel: {model:?}\nchecker: {checker:?}"));
+        }
+        match built::read(&built, first, second) {
+            Ok(member) if !agrees(&member, &checker) => {
+                Err(format!("{record:?}\na share and its check disagree: {checker:?}"))
+            }
+            _ => Ok(()),
+        }
+    }
+}
+
+/// Whether each share is at most 1.0 exactly where its check holds.
+fn agrees(member: &Member, utilization: &Utilization) -> bool {
+    let outcome = member.check();
+    let figures = outcome.figures().len();
+    (0..figures).all(|place| {
+        let share = f64::from_bits(utilization.shares[place]);
+        let holds = place + 1 < figures || !fails_by_figure(&outcome);
+        !utilization.reached[place] || (share <= 1.0) == holds
+    })
+}
+
+/// Whether the failed check is the one of the last figure.
+fn fails_by_figure(outcome: &Outcome) -> bool {
+    matches!(
+        outcome.failed,
+        Some(
+            Check::Moment
+                | Check::MomentShallow
+                | Check::Shear
+                | Check::CrackWidth
+                | Check::Deflection
+                | Check::Axial
+                | Check::Anchorage
+                | Check::Lap
+        )
+    )
+}

@@ -1,0 +1,260 @@
+//! What a comparison is run on.
+
+use crate::comparison::{Checker, Comparison};
+use crate::make::{
+    self, beams, columns, damage, edges, encode, equalities, hunts, meshes, Random, Record,
+};
+use crate::model::built::Group;
+
+type Outcome = Result<(), String>;
+
+/// Runs everything; `multiplier` scales the random parts.
+pub fn all<C: Checker>(
+    comparison: &mut Comparison<C>,
+    random: &Random,
+    multiplier: u64,
+) -> Outcome {
+    random_schedules(comparison, random, 6000 * multiplier)?;
+    hugging_schedules(comparison, random, 4000 * multiplier)?;
+    equality_schedules(comparison, random)?;
+    together(comparison, random, hunts::hunts(random, 20 * multiplier as usize))?;
+    every_mesh(comparison, random)?;
+    every_slenderness(comparison, random)?;
+    edge_members(comparison, random, 3 * multiplier)?;
+    damaged_schedules(comparison, random, 8 * multiplier)?;
+    long_schedules(comparison, random, 10 * multiplier)?;
+    built_members(comparison, random, 6000 * multiplier)
+}
+
+/// A short run that still reaches every case.
+pub fn quick<C: Checker>(comparison: &mut Comparison<C>, random: &Random) -> Outcome {
+    random_schedules(comparison, random, 100)?;
+    hugging_schedules(comparison, random, 500)?;
+    equality_schedules(comparison, random)?;
+    together(comparison, random, hunts::hunts(random, 1))?;
+    every_mesh(comparison, random)?;
+    every_slenderness(comparison, random)?;
+    built_members(comparison, random, 100)
+}
+
+/// Schedules of few members, accepted or not.
+fn random_schedules<C: Checker>(
+    comparison: &mut Comparison<C>,
+    random: &Random,
+    count: u64,
+) -> Outcome {
+    for _ in 0..count {
+        let length = random.below(9);
+        let mut records: Vec<Record> = (0..length).map(|_| make::random_member(random)).collect();
+        make::renumber(random, &mut records);
+        if random.one_in(20) && length > 1 {
+            let place = 1 + random.below(length - 1) as usize;
+            records[place].mark = records[place - 1].mark - random.below(2) as u32;
+        }
+        comparison.records(&records)?;
+    }
+    Ok(())
+}
+
+/// Sends the accepted records together and each refused one alone.
+fn together<C: Checker>(
+    comparison: &mut Comparison<C>,
+    random: &Random,
+    records: Vec<Record>,
+) -> Outcome {
+    let (mut accepted, refused): (Vec<Record>, Vec<Record>) =
+        records.into_iter().partition(|record| record.read().is_some());
+    for chunk in accepted.chunks_mut(50) {
+        make::renumber(random, chunk);
+        comparison.records(chunk)?;
+    }
+    for record in refused {
+        comparison.records(&[record])?;
+    }
+    Ok(())
+}
+
+/// Members and their neighbours at every figure.
+fn hugging_schedules<C: Checker>(
+    comparison: &mut Comparison<C>,
+    random: &Random,
+    count: u64,
+) -> Outcome {
+    for _ in 0..count {
+        let records = make::hugging_members(random);
+        for record in records.iter().take(3) {
+            comparison.built(record)?;
+        }
+        together(comparison, random, records)?;
+    }
+    Ok(())
+}
+
+fn equality_schedules<C: Checker>(comparison: &mut Comparison<C>, random: &Random) -> Outcome {
+    let records = equalities::equalities();
+    for record in &records {
+        comparison.built(record)?;
+    }
+    together(comparison, random, records)
+}
+
+/// Each mesh there is, with given lengths at the required ones.
+fn every_mesh<C: Checker>(comparison: &mut Comparison<C>, random: &Random) -> Outcome {
+    let mut records = meshes::every_mesh();
+    for chunk in records.chunks_mut(500) {
+        make::renumber(random, chunk);
+        comparison.records(chunk)?;
+    }
+    Ok(())
+}
+
+/// One column at lengths throughout the table of φ and past both its ends.
+fn every_slenderness<C: Checker>(comparison: &mut Comparison<C>, random: &Random) -> Outcome {
+    let mut records = columns::every_slenderness();
+    for chunk in records.chunks_mut(500) {
+        make::renumber(random, chunk);
+        comparison.records(chunk)?;
+    }
+    Ok(())
+}
+
+/// The first accepted member that is made and wanted.
+fn accepted(make: impl Fn() -> Record, wanted: impl Fn(&Record) -> bool) -> Record {
+    loop {
+        let record = make();
+        if wanted(&record) && record.read().is_some() {
+            return record;
+        }
+    }
+}
+
+/// An accepted member of each kind, beams with and without compression bars.
+fn bases(random: &Random) -> Vec<Record> {
+    let beam = || beams::random_beam(random);
+    vec![
+        accepted(beam, |record| record.second.is_empty()),
+        accepted(beam, |record| !record.second.is_empty()),
+        accepted(|| columns::random_column(random), |_| true),
+        accepted(|| meshes::random_mesh(random), |_| true),
+    ]
+}
+
+/// Every field at and outside its range's ends, alone, inside a schedule, and built.
+fn edge_members<C: Checker>(
+    comparison: &mut Comparison<C>,
+    random: &Random,
+    count: u64,
+) -> Outcome {
+    for _ in 0..count {
+        for base in bases(random) {
+            let mut records = edges::field_edges(&base);
+            records.extend(edges::group_edges(&base));
+            records.extend(edges::question_edges(&base));
+            for record in records {
+                comparison.built(&record)?;
+                comparison.records(std::slice::from_ref(&record))?;
+                let mut three = [meshes::random_mesh(random), record.clone(), base.clone()];
+                make::renumber(random, &mut three);
+                if !(1..=999_999).contains(&record.mark) {
+                    three[1].mark = record.mark;
+                }
+                comparison.records(&three)?;
+            }
+        }
+    }
+    Ok(())
+}
+
+/// Damage to small accepted schedules.
+fn damaged_schedules<C: Checker>(
+    comparison: &mut Comparison<C>,
+    random: &Random,
+    count: u64,
+) -> Outcome {
+    for _ in 0..count {
+        let mut records = bases(random);
+        records.rotate_left(random.below(4) as usize);
+        records.truncate(1 + random.below(4) as usize);
+        make::renumber(random, &mut records);
+        let bytes = encode(&records);
+        let mut found = Ok(());
+        let mut put = |bytes: &[u8]| {
+            if found.is_ok() {
+                found = comparison.schedule(bytes);
+            }
+        };
+        damage::by_byte(&bytes, random, &mut put);
+        damage::by_number(&bytes, random, &mut put);
+        damage::sizes(&bytes, random, &mut put);
+        found?;
+    }
+    Ok(())
+}
+
+/// Schedules of up to 500 members, whole, with a byte after them, and cut.
+fn long_schedules<C: Checker>(
+    comparison: &mut Comparison<C>,
+    random: &Random,
+    count: u64,
+) -> Outcome {
+    for _ in 0..count {
+        let length = random.pick(&[100, 499, 500, 500, 501]);
+        let mut records = Vec::new();
+        while records.len() < length {
+            let record = make::random_member(random);
+            if record.read().is_some() {
+                records.push(record);
+            }
+        }
+        make::renumber(random, &mut records);
+        let mut bytes = encode(&records);
+        comparison.schedule(&bytes)?;
+        comparison.schedule(&bytes[..bytes.len() - 1])?;
+        comparison.schedule(&bytes[..random.below(bytes.len() as u64) as usize])?;
+        bytes.push(random.next() as u8);
+        comparison.schedule(&bytes)?;
+    }
+    Ok(())
+}
+
+fn junk_group(random: &Random) -> Group {
+    Group { diameter: random.below(60) as u32, bars: random.below(25) as u32 }
+}
+
+/// Junk where a built member is not read, and now and then where it is.
+fn littered(record: &Record, random: &Random) -> Record {
+    let mut record = record.clone();
+    for field in record.field_count()..record.fields.len() {
+        record.fields[field] = random.next() as u32;
+    }
+    for _ in 0..random.below(4) {
+        record.first.push(junk_group(random));
+        record.second.push(junk_group(random));
+    }
+    match random.below(12) {
+        0 => record.mark = random.pick(&[0, 1_000_000, u32::MAX]),
+        1 => record.kind = random.pick(&[0, 4, 5, u32::MAX]),
+        2 => drop(record.first.pop()),
+        3 => drop(record.second.pop()),
+        4 => record.first.clear(),
+        5 => {
+            let field = random.below(record.field_count() as u64) as usize;
+            record.fields[field] = random.next() as u32 >> random.below(32);
+        }
+        _ => record.mark = 1 + random.below(999_999) as u32,
+    }
+    record
+}
+
+fn built_members<C: Checker>(
+    comparison: &mut Comparison<C>,
+    random: &Random,
+    count: u64,
+) -> Outcome {
+    for _ in 0..count {
+        let record = make::random_member(random);
+        comparison.built(&record)?;
+        comparison.built(&littered(&record, random))?;
+    }
+    Ok(())
+}
