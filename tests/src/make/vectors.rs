@@ -1,13 +1,17 @@
-//! One schedule of some 300 members that reaches every case.
+//! Vectors for another test program: some 300 members that reach every case, and damaged schedules.
 
-use std::collections::BTreeSet;
+use std::collections::{BTreeMap, BTreeSet};
 
-use super::{encode, equalities, hugging_members, hunts, random_member, renumber, Random, Record};
+use super::edges::question_edges;
+use super::{
+    damage, encode, equalities, hugging_members, hunts, random_member, renumber, Random, Record,
+};
 use crate::branches::{required, Case, Tally};
 use crate::model::report;
 
-/// Members in the schedule.
+/// Members, and how many schedules have the same refusal.
 pub const MEMBERS: usize = 300;
+const ALIKE: usize = 8;
 
 /// The cases that a record reaches, if it is accepted.
 fn cases(record: &Record) -> Option<Vec<Case>> {
@@ -52,11 +56,57 @@ pub fn members(random: &Random) -> Vec<Record> {
     kept
 }
 
-/// A schedule and its report.
-pub fn vectors(random: &Random) -> (Vec<u8>, Vec<u8>) {
-    let schedule = encode(&members(random));
+/// What the report program prints for a schedule's bytes.
+fn printed(schedule: &[u8]) -> Vec<u8> {
     let mut text = vec![0; 64_000];
-    let length = report::report(&schedule, &mut text).expect("every member is accepted");
-    text.truncate(length);
-    (schedule, text)
+    match report::report(schedule, &mut text) {
+        Ok(length) => text.truncate(length),
+        Err(no) => text = format!("refused {} member {}\n", no.question, no.member).into_bytes(),
+    }
+    text
+}
+
+/// Refused schedules: of three members with a number or a byte damaged, and of one member past a question's edge.
+fn refused(members: &[Record], random: &Random) -> Vec<Vec<u8>> {
+    let mut schedules: Vec<Vec<u8>> = Vec::new();
+    let mut seen: BTreeMap<Vec<u8>, usize> = BTreeMap::new();
+    let mut put = |bytes: &[u8]| {
+        let text = printed(bytes);
+        let times = seen.entry(text.clone()).or_default();
+        if text.starts_with(b"refused") && *times < ALIKE && bytes.len() < 1000 {
+            *times += 1;
+            schedules.push(bytes.to_vec());
+        }
+    };
+    for few in members.chunks(3) {
+        damage::by_number(&encode(few), random, &mut put);
+        damage::by_byte(&encode(few), random, &mut put);
+        for edge in few.iter().flat_map(question_edges) {
+            put(&encode(&[edge]));
+        }
+    }
+    schedules
+}
+
+/// Each member alone, all of them, none, and refused ones.
+fn schedules(random: &Random) -> Vec<Vec<u8>> {
+    let members = members(random);
+    let mut schedules: Vec<Vec<u8>> = members.iter().map(|one| encode(&[one.clone()])).collect();
+    schedules.push(encode(&members));
+    schedules.push(vec![0]);
+    schedules.extend(refused(&members, random));
+    schedules
+}
+
+/// A row of vectors: a schedule and the text expected, each after its length in two bytes, low byte first.
+pub fn vectors(random: &Random) -> (usize, Vec<u8>) {
+    let schedules = schedules(random);
+    let mut row = Vec::new();
+    for schedule in &schedules {
+        for part in [schedule, &printed(schedule)] {
+            row.extend((part.len() as u16).to_le_bytes());
+            row.extend(part);
+        }
+    }
+    (schedules.len(), row)
 }
