@@ -1,4 +1,5 @@
--- What the sums may use of groups that passed question 7 (document 01, "A group is diameter and bar count").
+-- What the sums may use of groups that passed question 7.
+-- (document 01, "A group is diameter and bar count")
 use Prim.Native.Nat.{ℕ, _≤_, _<_}
 use mathlib.Core.List.{List, [], _∷_}
 use Rattle.standard.specs.Bars.{areaOf}

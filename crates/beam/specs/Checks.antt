@@ -1,4 +1,5 @@
--- The checks of a beam in document 01's order: they stop at the first failure, and a figure is worked out when its check is reached.
+-- The checks of a beam in document 01's order, up to the first that fails.
+-- A figure is worked out when its check is reached.
 use Prim.Native.Nat.{ℕ}
 use lib.Dec.{leb}
 use Rattle.quantity.specs.Choice.{if_then_else_}

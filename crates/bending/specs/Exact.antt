@@ -1,4 +1,5 @@
--- The clauses of bending without rounding: forces in N, lengths in mm, stresses in N/mm², moments in N·m.
+-- The clauses of bending without rounding: 6.3.1, 4.2.2-3, 4.2.2 and 4.2.3.
+-- Forces in N, lengths in mm, stresses in N/mm², moments in N·m.
 use Prim.Native.Nat.{_+_, _-_, _*_, _≤_}
 use mathlib.Core.Bool.{Bool, _||_}
 use lib.Dec.{leb, eqb}

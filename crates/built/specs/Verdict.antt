@@ -1,4 +1,5 @@
--- Questions 8 to 10 of a whole member, and the questions of a single built member (document 01, "Questions before any check").
+-- Questions 8 to 10 of a whole member, and the questions of a single built member.
+-- (document 01, "Questions before any check")
 use Prim.Native.Nat.{ℕ}
 use mathlib.Core.Bool.{Bool}
 use mathlib.Core.List.{List}

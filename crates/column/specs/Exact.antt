@@ -1,5 +1,5 @@
--- Demand 3 for a column: the axial capacity of 000, 4.2.4 as an exact fraction of N, its exact inequalities, and what an
--- outcome may say of it.
+-- Demand 3 for a column: the exact axial capacity of 000, 4.2.4, the exact inequalities, and what an outcome may say.
+-- The capacity is an exact fraction of N.
 use Prim.Native.Nat.{ℕ, zero, suc, _+_, _-_, _*_, _≤_}
 use mathlib.Core.Path.{_≡_}
 use lib.Dec.{leb, ltb}

@@ -1,4 +1,5 @@
--- The fields of each kind in the order of document 01, "Schedule bytes": field i of a member stands in slot i.
+-- The fields of each kind, in the order of document 01, "Schedule bytes".
+-- Field i of a member stands in slot i.
 use Prim.Native.Nat.{ℕ, _+_}
 use mathlib.Core.Bool.{Bool, true, _&&_}
 use mathlib.Core.List.{List, [], _∷_, _++_}

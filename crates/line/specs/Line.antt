@@ -1,4 +1,5 @@
--- The words of each line that is printed (document 01, "One schedule, printed"); `textOf` makes the text of lines of words.
+-- The words of each line that is printed (document 01, "One schedule, printed").
+-- `textOf` (crate `text`) makes the text of lines of words.
 use Prim.Native.Nat.{ℕ}
 use mathlib.Core.List.{List, [], _∷_, map}
 use lib.ListN.{length}

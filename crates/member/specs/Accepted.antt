@@ -1,4 +1,5 @@
--- What the checks may use of a member that passed questions 7 to 10: the ranges of document 01, "Schedule bytes", and the relations.
+-- What the checks may use of a member that passed questions 7 to 10.
+-- The ranges are those of document 01, "Schedule bytes"; the relations those of questions 8 to 10.
 use Prim.Native.Nat.{ℕ, _+_, _*_, _≤_, _<_}
 use mathlib.Core.Path.{_≡_}
 use mathlib.Core.Bool.{true}

@@ -1,5 +1,5 @@
--- Members as document 01 has them: "a member's fields are those of its kind, with the groups that its counts name".
--- Two members are equal exactly where mark, kind and these are.
+-- Members as document 01 has them.
+-- "A member's fields are those of its kind, with the groups that its counts name": two are equal exactly where mark, kind and these are.
 use Prim.Native.Nat.{ℕ, _-_}
 use mathlib.Core.List.{List}
 use lib.ListN.{take}

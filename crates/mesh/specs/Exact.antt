@@ -1,5 +1,5 @@
--- Demand 3 for a mesh: the clauses' lengths as exact fractions of a millimetre (000, 5.2.5 and 5.3.7), its exact inequalities,
--- and what an outcome may say of it.
+-- Demand 3 for a mesh: the exact lengths of 000, 5.2.5 and 5.3.7, the exact inequalities, and what an outcome may say.
+-- Lengths are exact fractions of a millimetre.
 use Prim.Native.Nat.{ℕ, _*_}
 use mathlib.Core.Path.{_≡_}
 use mathlib.Core.Bool.{_||_}

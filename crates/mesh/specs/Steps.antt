@@ -1,5 +1,5 @@
--- The steps of a ribbed welded mesh (document 01, "Mesh."; 000, 5.2.5 and 5.3.7). A factor in tenths or hundredths makes the
--- unit of length as much smaller, so that lengths are whole and exact up to the one `up`.
+-- The steps of a ribbed welded mesh (document 01, "Mesh."; 000, 5.2.5 and 5.3.7).
+-- A factor in tenths or hundredths makes the unit of length as much smaller, so that lengths are whole and exact up to the one `up`.
 use Prim.Native.Nat.{ℕ, _+_, _*_, max}
 use mathlib.Core.Bool.{_||_}
 use lib.Dec.{leb, eqb}

@@ -1,4 +1,5 @@
--- The bytes of a number (document 01, "Schedule bytes"): as few groups of seven bits as hold it, lowest first.
+-- The bytes of a number: as few groups of seven bits as hold it, lowest first.
+-- (document 01, "Schedule bytes")
 use Prim.Native.Nat.{ℕ, zero, suc, _+_, _/_, _%_}
 use mathlib.Core.List.{List, [], _∷_}
 use lib.Dec.{ltb}

@@ -1,4 +1,5 @@
--- Exact fractions: pairs of whole numbers, the lower one above 0 (`Proper`), compared by cross-multiplying.
+-- Exact fractions, compared by cross-multiplying.
+-- Pairs of whole numbers, the lower one above 0 (`Proper`).
 use Prim.Native.Nat.{ℕ, _+_, _-_, _*_, _<_, _≤_, min, max}
 use mathlib.Core.Path.{_≡_}
 

@@ -1,4 +1,5 @@
--- The codes' separate units as whole numbers: newtons, millimetres, and hundredths of a newton per square millimetre.
+-- The codes' separate units as whole numbers.
+-- Newtons, millimetres, and hundredths of a newton per square millimetre.
 use Prim.Native.Nat.{ℕ, _*_}
 use Rattle.quantity.specs.declared.Force.{Force}
 use Rattle.quantity.specs.declared.Length.{Length}

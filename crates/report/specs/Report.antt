@@ -1,4 +1,5 @@
--- The report of a schedule and of one built member (document 01, "One schedule, printed"), the answer, and the buffer afterwards.
+-- The report of a schedule and of one built member, the answer, and the buffer afterwards.
+-- (document 01, "One schedule, printed")
 use Prim.Native.Nat.{ℕ, zero, suc}
 use mathlib.Core.Path.{_≡_}
 use mathlib.Core.List.{List, [], _++_}

@@ -1,5 +1,5 @@
--- The schedule that bytes define, or the first question answered no, with its member (document 01, "Schedule bytes" and "Questions before any
--- check").
+-- The schedule that bytes define, or the first question answered no, with its member.
+-- (document 01, "Schedule bytes" and "Questions before any check")
 use Prim.Native.Nat.{ℕ, zero, suc, _+_}
 use mathlib.Core.Bool.{Bool, _&&_}
 use mathlib.Core.List.{List, [], _∷_}

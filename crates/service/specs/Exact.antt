@@ -1,4 +1,5 @@
--- Service checks of a beam as the clauses write them, over fractions in N, mm and N/mm²: 4.4.1, 4.4.2, 4.5.1 (GB 7.1.2, 7.1.4, 7.2.3, 7.2.5).
+-- The clauses of service without rounding: 4.4.1, 4.4.2, 4.5.1 (GB 7.1.2, 7.1.4, 7.2.3, 7.2.5).
+-- Fractions in N, mm and N/mm².
 use Prim.Native.Nat.{_*_, _^_, _≤_, min}
 use lib.Dec.{leb, ltb, eqb}
 use Rattle.quantity.specs.Choice.{if_then_else_}

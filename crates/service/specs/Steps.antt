@@ -1,4 +1,4 @@
--- Service checks of a beam by document 01's scaled steps: 4.4.1, 4.4.2, 4.5.1.
+-- Document 01's steps for the service checks of a beam: 4.4.1, 4.4.2 and 4.5.1.
 use Prim.Native.Nat.{ℕ, _+_, _-_, _*_, _^_, min, max}
 use mathlib.Core.Bool.{Bool}
 use lib.Dec.{leb, ltb, eqb}

@@ -1,4 +1,5 @@
--- The clauses of shear without rounding: forces in N, lengths in mm, stresses in N/mm².
+-- The clauses of shear without rounding: 4.3.3, 5.5.6s and 5.5.6r.
+-- Forces in N, lengths in mm, stresses in N/mm².
 use Prim.Native.Nat.{_*_, _≤_, _<_}
 use lib.Dec.{ltb}
 use Rattle.quantity.specs.Fraction.{Frac, _//_, whole, _⊕_, _⊗_, _⊘_, _≼_}

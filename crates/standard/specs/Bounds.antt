@@ -1,4 +1,5 @@
--- What the checks ask of the values of any concrete and steel, so that an added row of the tables moves no proof.
+-- What the checks ask of the values of any concrete and steel.
+-- An added row of the tables within these bounds moves no proof.
 use Prim.Native.Nat.{ℕ, _*_, _≤_}
 use mathlib.Core.Path.{_≡_}
 use Rattle.quantity.specs.declared.Stress.{Stress}

@@ -1,4 +1,5 @@
--- Text as a list of bytes: decimal numbers, fixed words, lines and the words of a line (document 01, "One schedule, printed").
+-- Text as a list of bytes: decimal numbers, words and lines, and how they are read back.
+-- (document 01, "One schedule, printed")
 use Prim.Native.Nat.{ℕ, zero, suc, _+_, _-_, _*_, _/_, _%_}
 use mathlib.Core.Bool.{Bool, true, false, _&&_}
 use mathlib.Core.List.{List, [], _∷_, _++_, map}

@@ -1,3 +1,4 @@
+-- The largest utilization that was reached, or none.
 -- "The governing share is a double or the plain word none; the largest wins" (document 01, "Shares for the viewer").
 use mathlib.Core.Bool.{Bool, true, false}
 use mathlib.Core.List.{List, [], _∷_}

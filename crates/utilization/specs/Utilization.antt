@@ -1,4 +1,5 @@
--- Utilizations: demand over figure, or figure over limit. Document 01, "Shares for the viewer", calls a utilization a share.
+-- Utilizations: demand over figure, or figure over limit.
+-- Document 01, "Shares for the viewer", calls a utilization a share.
 use Prim.Native.Nat.{ℕ, _*_, _^_, _<_}
 use mathlib.Core.Bool.{true, false}
 use lib.Dec.{eqb}
