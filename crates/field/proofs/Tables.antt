@@ -154,7 +154,7 @@ module _ (fs : List Domain) (i : ℕ) (v : List ℕ) (h : i < length fs) (d : Do
   unfolding fieldHolds
   field-outside a e = fields-step ∙ rw (a, e)
 
--- ---- A domain as the code has it.
+-- ---- A domain as the code has it: sorts 6 and 7 are the groups'.
 
 pub asked-group : (sort a b : ℕ) (v : List ℕ) → 6 ≤ sort → asked (decode sort a b) v ≡ ltb b (getD v a 0)
 unfolding asked

@@ -71,6 +71,7 @@ pub fn slot(t: Slots, i: usize) -> u32
     if i < 40 { v[i] } else { 0 }
 }
 
+// The same of lent slots.
 fn slot_at(v: &[u32], i: usize) -> u32
     ensures { λ r. ⌜ r ≡ getD (now (v .entry)) i 0 ⌝ }
 {
@@ -314,7 +315,7 @@ pub fn field_count(kind: u32) -> usize
     COUNTS[kind as usize]
 }
 
-// The first row of a kind.
+// The first row of a kind in the table.
 pub fn first_row(kind: u32) -> usize
     requires { ⌜ known kind ≡ true ⌝ }
     ensures { λ r. ⌜ r ≡ firstRow kind ⌝ }
