@@ -17,15 +17,13 @@ fn wide(x: u8) -> u64
     x as u64
 }
 
-// The number that ends before `next` with the group b of weight w, where v is the value of the groups below.
+// The number that ends before `next` with the group b of weight w, where v is the value of the groups below: it is not the only one.
 fn last_group(b: u64, w: u64, v: u64, next: usize) -> Number
-    requires { ⌜ v + b * w < 2 ^ 64 ⌝ }
+    requires { ⌜ (1 < w) × (v + b * w < 2 ^ 64) ⌝ }
     ensures { λ r. ⌜ r ≡ lastGroup b w v next ⌝ }
 {
     if b == 0 {
-        if w != 1 {
-            return Number::Refused(Question::NumberForm);
-        }
+        return Number::Refused(Question::NumberForm);
     }
     let value = v + b * w;
     if value < 4294967296 {

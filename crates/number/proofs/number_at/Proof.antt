@@ -11,7 +11,7 @@ use Rattle.number.proofs.number_at.Tie as tie
 
 abbrev Inv-loop : tie.InvT-loop
 Inv-loop src at first left₀ p₀ w₀ v₀ left p w v =
-    (left ≤ 4) × (w ≡ 128 ^ (5 - left)) × (v < w) × (numberAt src at ≡ groupsAt left src p w v)
+    (left ≤ 4) × (w ≡ 128 ^ (5 - left)) × (v < w) × (1 < w) × (numberAt src at ≡ groupsAt left src p w v)
 
 abbrev μ-loop : tie.MeasureT-loop
 μ-loop src at first left₀ p₀ w₀ v₀ left p w v = left
@@ -50,6 +50,7 @@ loop-holds c =
       search needs,
       refl,
       omega (arith, w .wide .ensures, w .before .shared-slice-known2 .given (w .before .before .before .before .args .at)),
+      search needs,
       rw (← e) (group-follows _ 5 _ _ _ (omega arith) _ (w .wide .ensures) (w .before .before .if1 .left) (c .if2 .left)),
     )
 
@@ -71,7 +72,7 @@ sum c =
 returns-3 : tie.Need-returns-3 Inv-loop μ-loop
 returns-3 c =
     let a = c .before .before in
-    sym (a .loop .inv .3 ∙ file-ends _ _ _ _ _ (c .before .loop-test .taken) (c .if3 .taken))
+    sym (a .loop .inv .4 ∙ file-ends _ _ _ _ _ (c .before .loop-test .taken) (c .if3 .taken))
 
 shared-slice-read-wide-2 : tie.Need-shared-slice-read-wide-2 Inv-loop μ-loop
 shared-slice-read-wide-2 c = search needs
@@ -85,14 +86,14 @@ add-last-group c = search needs
 last-group-requires : tie.Need-last-group-requires Inv-loop μ-loop
 last-group-requires c κs =
     let l = c .before .before .before .before .before .loop in
-    omega (arith, below (c .before .wide2 .result) (l .w) (l .v) (c .if4 .taken) (l .inv .2), top (c .before))
+    (l .inv .3, omega (arith, below (c .before .wide2 .result) (l .w) (l .v) (c .if4 .taken) (l .inv .2), top (c .before)))
 
 returns-4 : tie.Need-returns-4 Inv-loop μ-loop
 returns-4 c =
     let w = c .before .before in
     let l = w .before .before .before .before .loop in
     c .last-group .ensures
-    ∙ sym (l .inv .3 ∙ last-group-at _ _ _ _ _ (w .before .before .before .loop-test .taken) _ (w .wide2 .ensures) (w .before .before .if3 .left) (c .before .if4 .taken))
+    ∙ sym (l .inv .4 ∙ last-group-at _ _ _ _ _ (w .before .before .before .loop-test .taken) _ (w .wide2 .ensures) (w .before .before .if3 .left) (c .before .if4 .taken))
 
 mul-v : tie.Need-mul-v Inv-loop μ-loop
 mul-v c = omega (arith, sum c, top (c .before))
@@ -120,11 +121,12 @@ loop-again c =
       search needs,
       rw (l .inv .1) (weight-next (l .left) t (omega arith)),
       sum c,
-      l .inv .3 ∙ group-follows _ _ _ _ _ t _ (w .wide2 .ensures) (w .before .before .if3 .left) (c .if4 .left),
+      omega (arith, l .inv .3),
+      l .inv .4 ∙ group-follows _ _ _ _ _ t _ (w .wide2 .ensures) (w .before .before .if3 .left) (c .if4 .left),
     )
 
 returns-5 : tie.Need-returns-5 Inv-loop μ-loop
-returns-5 c = sym (c .before .loop .inv .3 ∙ none-left _ _ _ _ _ (c .loop-test .left))
+returns-5 c = sym (c .before .loop .inv .4 ∙ none-left _ _ _ _ _ (c .loop-test .left))
 
 pub number-at-spec : {M : Type 1} → statement M
 number-at-spec =
