@@ -6,17 +6,18 @@ use mathlib.Core.List.{List, [], _∷_, map}
 use native.Mathlib.Nat.{not-suc-le-zero, zero-add, add-assoc}
 use native.Mathlib.Numerals.{add-one}
 use native.Mathlib.Omega.{arith}
-use lib.Dec.{leb, eqb, eqb→eq}
+use lib.Dec.{leb, ltb, eqb, eqb→eq, leb→le}
 use lib.ListN.{length, getD, drop, length-append, drop-of-length-le, List·getD-append, List·getD-map}
 use lib.Seq.{drop-cons, getD-append-add}
-use borrow.Author.Tests.{leb-true}
+use borrow.Author.Tests.{leb-true, ne-eqb}
+use Rattle.quantity.proofs.Choice.{if-case}
 use Rattle.standard.proofs.Table.{every-at}
 use Rattle.member.proofs.Questions.{both-true}
 use Rattle.field.specs.declared.Domain.{Domain}
 use Rattle.field.specs.declared.Domain.the-variants.{Range, ZeroOr, Bar, Grade, Steel, LinkSteel, GroupDiameter, GroupBars}
-use Rattle.field.specs.Domain.{between, fieldHolds}
-use Rattle.field.specs.Fields.{kinds, fieldsOf, known, domainAt, fieldsHold}
-use Rattle.field.specs.Columns.{decode, rows, rowAt}
+use Rattle.field.specs.Domain.{between, holds, asked, fieldHolds}
+use Rattle.field.specs.Fields.{kinds, fieldsOf, known, fieldsHold}
+use Rattle.field.specs.Columns.{decode, rows, startOf, firstRow}
 
 -- ---- A row.
 
@@ -60,13 +61,20 @@ decoded LinkSteel = refl
 decoded (GroupDiameter a b) = refl
 decoded (GroupBars a b) = refl
 
+abbrev pub sorts : List ℕ
+sorts = map sortOf (rows kinds)
+
+abbrev pub firsts : List ℕ
+firsts = map firstOf (rows kinds)
+
+abbrev pub seconds : List ℕ
+seconds = map secondOf (rows kinds)
+
 -- the columns hold the rows
-pub row-decoded : (row : ℕ)
-    → decode (getD (map sortOf (rows kinds)) row 0) (getD (map firstOf (rows kinds)) row 0) (getD (map secondOf (rows kinds)) row 0) ≡ rowAt row
-unfolding rowAt
+row-decoded : (row : ℕ) → decode (getD sorts row 0) (getD firsts row 0) (getD seconds row 0) ≡ getD (rows kinds) row (Range 0 0)
 row-decoded row =
     rw (List·getD-map sortOf (rows kinds) row (Range 0 0), List·getD-map firstOf (rows kinds) row (Range 0 0), List·getD-map secondOf (rows kinds) row (Range 0 0))
-    (decoded (rowAt row))
+    (decoded (getD (rows kinds) row (Range 0 0)))
 
 -- ---- A kind.
 
@@ -81,12 +89,6 @@ pub count-of : (kind : ℕ) → getD (map length kinds) kind 0 ≡ length (field
 unfolding fieldsOf
 count-of kind = List·getD-map length kinds kind []
 
--- where the k-th of several tables starts
-abbrev startOf : {A : Type 0} → List (List A) → ℕ → ℕ
-startOf ts zero = 0
-startOf [] (suc k) = 0
-startOf (t ∷ ts) (suc k) = length t + startOf ts k
-
 rows-at : (ts : List (List Domain)) (k i : ℕ) → i < length (getD ts k [])
     → (startOf ts k + i < length (rows ts)) × (getD (rows ts) (startOf ts k + i) (Range 0 0) ≡ getD (getD ts k []) i (Range 0 0))
 rows-at [] k i h = absurd (not-suc-le-zero h)
@@ -97,18 +99,36 @@ rows-at (t ∷ ts) (suc k) i h =
     (simp length-append (omega arith), getD-append-add t (rows ts) (startOf ts k + i) (Range 0 0) ∙ r .1)
 
 -- the first rows as the code has them
-abbrev pub starts : List ℕ
+abbrev starts : List ℕ
 starts = 0 ∷ 0 ∷ 37 ∷ 54 ∷ []
 
 started : ℕ → ℕ → Bool
 started k x = eqb x (startOf kinds k)
 
-pub row-of : (kind i : ℕ) → known kind ≡ true → i < length (fieldsOf kind)
-    → (getD starts kind 0 + i < 65) × (rowAt (getD starts kind 0 + i) ≡ domainAt kind i)
-unfolding started fieldsOf rowAt domainAt
-row-of kind i e h =
-    rw (eqb→eq (getD starts kind 0) (startOf kinds kind) (every-at started 0 starts tt kind (known-below kind e)))
-    (rows-at kinds kind i h)
+pub first-row-of : (kind : ℕ) → known kind ≡ true → getD starts kind 0 ≡ firstRow kind
+unfolding started firstRow
+first-row-of kind e = eqb→eq (getD starts kind 0) (startOf kinds kind) (every-at started 0 starts tt kind (known-below kind e))
+
+-- field i of a kind, as the columns have it
+pub row-of : (kind start i : ℕ) → start ≡ firstRow kind → i < length (fieldsOf kind)
+    → decode (getD sorts (start + i) 0) (getD firsts (start + i) 0) (getD seconds (start + i) 0) ≡ getD (fieldsOf kind) i (Range 0 0)
+unfolding fieldsOf firstRow
+row-of kind start i e h = row-decoded (start + i) ∙ rw e (rows-at kinds kind i h .1)
+
+few : ℕ → ℕ → Bool
+few k n = leb n 40
+
+within : ℕ → ℕ → Bool
+within k n = leb (startOf kinds k + n) 65
+
+-- a member's fields fit the slots, and their rows the columns
+pub fields-fit : (kind : ℕ) → known kind ≡ true → (length (fieldsOf kind) ≤ 40) × (firstRow kind + length (fieldsOf kind) ≤ 65)
+unfolding few within firstRow
+fields-fit kind e =
+    rw (← count-of kind) (
+      leb→le (getD (map length kinds) kind 0) 40 (every-at few 0 (map length kinds) tt kind (known-below kind e)),
+      leb→le (startOf kinds kind + getD (map length kinds) kind 0) 65 (every-at within 0 (map length kinds) tt kind (known-below kind e)),
+    )
 
 -- ---- Question 7, field by field.
 
@@ -118,13 +138,39 @@ drop-one fs i h = drop-cons fs i (Range 0 0) h ∙ ap (λ (n : ℕ). getD fs i (
 pub fields-end : (fs : List Domain) (i : ℕ) (v : List ℕ) → length fs ≤ i → fieldsHold (drop i fs) i v ≡ true
 fields-end fs i v h = rw (drop-of-length-le fs h)
 
--- b: the code's answer for field i
-module _ (fs : List Domain) (i : ℕ) (v : List ℕ) (h : i < length fs) (d : Domain) (b : Bool) (is : d ≡ getD fs i (Range 0 0)) (e : b ≡ fieldHolds d i v) where
-  fields-step : fieldsHold (drop i fs) i v ≡ (b && fieldsHold (drop (i + 1) fs) (i + 1) v)
-  fields-step = ap (λ (l : List Domain). fieldsHold l i v) (drop-one fs i h) ∙ rw (← is, ← e)
+module _ (fs : List Domain) (i : ℕ) (v : List ℕ) (h : i < length fs) (d : Domain) (is : d ≡ getD fs i (Range 0 0)) where
+  fields-step : fieldsHold (drop i fs) i v ≡ (fieldHolds d i v && fieldsHold (drop (i + 1) fs) (i + 1) v)
+  fields-step = ap (λ (l : List Domain). fieldsHold l i v) (drop-one fs i h) ∙ rw (← is)
 
-  pub field-no : b ≡ false → fieldsHold (drop i fs) i v ≡ false
-  field-no f = fields-step ∙ rw f
+  pub field-absent : asked d v ≡ false → fieldsHold (drop i fs) i v ≡ fieldsHold (drop (i + 1) fs) (i + 1) v
+  unfolding fieldHolds
+  field-absent a = fields-step ∙ rw a
 
-  pub field-yes : b ≡ true → fieldsHold (drop i fs) i v ≡ fieldsHold (drop (i + 1) fs) (i + 1) v
-  field-yes f = fields-step ∙ rw f
+  pub field-inside : asked d v ≡ true → holds d (getD v i 0) ≡ true → fieldsHold (drop i fs) i v ≡ fieldsHold (drop (i + 1) fs) (i + 1) v
+  unfolding fieldHolds
+  field-inside a e = fields-step ∙ rw (a, e)
+
+  pub field-outside : asked d v ≡ true → holds d (getD v i 0) ≡ false → fieldsHold (drop i fs) i v ≡ false
+  unfolding fieldHolds
+  field-outside a e = fields-step ∙ rw (a, e)
+
+-- ---- A domain as the code has it: sorts 6 and 7 are the groups'.
+
+pub asked-group : (sort a b : ℕ) (v : List ℕ) → 6 ≤ sort → asked (decode sort a b) v ≡ ltb b (getD v a 0)
+unfolding asked
+asked-group sort a b v h =
+    simp (above 0 (omega arith), above 1 (omega arith), above 2 (omega arith), above 3 (omega arith), above 4 (omega arith), above 5 (omega arith))
+    (if-case (λ (d : Domain). asked d v ≡ ltb b (getD v a 0)) (eqb sort 6) (GroupDiameter a b) (GroupBars a b) (λ _. refl) (λ _. refl))
+  where
+    above : (k : ℕ) → k < sort → eqb sort k ≡ false
+    above k l = ne-eqb sort k (λ e. omega arith)
+
+pub asked-other : (sort a b : ℕ) (v : List ℕ) → sort < 6 → asked (decode sort a b) v ≡ true
+unfolding asked
+asked-other zero a b v h = refl
+asked-other (suc zero) a b v h = refl
+asked-other (suc (suc zero)) a b v h = refl
+asked-other (suc (suc (suc zero))) a b v h = refl
+asked-other (suc (suc (suc (suc zero)))) a b v h = refl
+asked-other (suc (suc (suc (suc (suc zero))))) a b v h = refl
+asked-other (suc (suc (suc (suc (suc (suc n)))))) a b v h = absurd (omega arith)

@@ -1,8 +1,8 @@
 -- The columns in which the code holds the table of fields: the sort of a domain and its two numbers.
-use Prim.Native.Nat.{ℕ}
+use Prim.Native.Nat.{ℕ, zero, suc, _+_}
 use mathlib.Core.List.{List, [], _∷_, _++_}
 use lib.Dec.{eqb}
-use lib.ListN.{getD}
+use lib.ListN.{length}
 use Rattle.quantity.specs.Choice.{if_then_else_}
 use Rattle.field.specs.declared.Domain.{Domain}
 use Rattle.field.specs.declared.Domain.the-variants.{
@@ -33,5 +33,12 @@ abbrev pub rows : List (List Domain) → List Domain
 rows [] = []
 rows (t ∷ ts) = t ++ rows ts
 
-unfoldable pub rowAt : ℕ → Domain
-rowAt row = getD (rows kinds) row (Range 0 0)
+-- where the k-th of several tables starts
+abbrev pub startOf : {A : Type 0} → List (List A) → ℕ → ℕ
+startOf ts zero = 0
+startOf [] (suc k) = 0
+startOf (t ∷ ts) (suc k) = length t + startOf ts k
+
+-- the first row of a kind
+unfoldable pub firstRow : ℕ → ℕ
+firstRow kind = startOf kinds kind

@@ -81,10 +81,6 @@ fieldsOf kind = getD kinds kind []
 unfoldable pub known : ℕ → Bool
 known kind = between 1 3 kind
 
--- Field i of a kind.
-unfoldable pub domainAt : ℕ → ℕ → Domain
-domainAt kind i = getD (fieldsOf kind) i (Range 0 0)
-
 -- Question 7 of the fields in the slots from i on.
 abbrev pub fieldsHold : List Domain → ℕ → List ℕ → Bool
 fieldsHold [] i v = true

@@ -3,9 +3,9 @@ ghost use mathlib.Core.Path.{_≡_};
 ghost use mathlib.Core.Bool.{true};
 ghost use Prim.Native.Nat.{_<_};
 ghost use lib.ListN.{length, getD};
-ghost use Rattle.field.specs.Domain.{between, bar, holds, asked, fieldHolds};
-ghost use Rattle.field.specs.Fields.{fieldsOf, known, domainAt, fieldsHold};
-ghost use Rattle.field.specs.Columns.{decode, rowAt};
+ghost use Rattle.field.specs.Domain.{between, bar, holds, asked};
+ghost use Rattle.field.specs.Fields.{fieldsOf, known, fieldsHold};
+ghost use Rattle.field.specs.Columns.{decode, firstRow};
 use quantity::both;
 use quantity::either;
 use standard::area_of;
@@ -13,7 +13,7 @@ use standard::is_grade;
 use standard::is_link_steel;
 use standard::is_steel;
 
-// What a field may hold.
+// What a field may hold. The code has a domain as its sort (the variants from 0 on) and its two numbers.
 pub enum Domain {
     // from the first number to the second
     Range(u32, u32),
@@ -47,19 +47,19 @@ fn is_bar(lo: u32, hi: u32, x: u32) -> bool
     both(is_between(lo, hi, x), 0 < area_of(x))
 }
 
-// Whether x lies in the domain.
-pub fn domain_holds(d: Domain, x: u32) -> bool
-    ensures { λ r. ⌜ r ≡ holds d x ⌝ }
+// Whether x lies in the domain of this sort with the numbers a and b.
+pub fn sort_holds(sort: u32, a: u32, b: u32, x: u32) -> bool
+    ensures { λ r. ⌜ r ≡ holds (decode sort a b) x ⌝ }
 {
-    match d {
-        Domain::Range(lo, hi) => is_between(lo, hi, x),
-        Domain::ZeroOr(lo, hi) => either(x == 0, is_between(lo, hi, x)),
-        Domain::Bar(lo, hi) => is_bar(lo, hi, x),
-        Domain::Grade => is_grade(x),
-        Domain::Steel => is_steel(x),
-        Domain::LinkSteel => is_link_steel(x),
-        Domain::GroupDiameter(_, _) => is_bar(6, 50, x),
-        Domain::GroupBars(_, _) => is_between(1, 20, x),
+    match sort {
+        0 => is_between(a, b, x),
+        1 => either(x == 0, is_between(a, b, x)),
+        2 => is_bar(a, b, x),
+        3 => is_grade(x),
+        4 => is_steel(x),
+        5 => is_link_steel(x),
+        6 => is_bar(6, 50, x),
+        _ => is_between(1, 20, x),
     }
 }
 
@@ -71,24 +71,27 @@ pub fn slot(t: Slots, i: usize) -> u32
     if i < 40 { v[i] } else { 0 }
 }
 
-// Whether the field is there: a group past its count is not.
-pub fn is_asked(d: Domain, t: Slots) -> bool
-    ensures { λ r. ⌜ r ≡ asked d (t .v) ⌝ }
+// The same of lent slots.
+fn slot_at(v: &[u32], i: usize) -> u32
+    ensures { λ r. ⌜ r ≡ getD (now (v .entry)) i 0 ⌝ }
 {
-    match d {
-        Domain::GroupDiameter(count, place) => place < slot(t, count as usize),
-        Domain::GroupBars(count, place) => place < slot(t, count as usize),
-        Domain::Range(_, _) => true,
-        Domain::ZeroOr(_, _) => true,
-        Domain::Bar(_, _) => true,
-        Domain::Grade => true,
-        Domain::Steel => true,
-        Domain::LinkSteel => true,
+    if i < v.len() { v[i] } else { 0 }
+}
+
+// Whether the field is there: a group past its count is not.
+pub fn sort_asked(sort: u32, a: u32, b: u32, v: &[u32]) -> bool
+    ensures { λ r. ⌜ r ≡ asked (decode sort a b) (now (v .entry)) ⌝ }
+{
+    if sort < 6 {
+        true
+    } else {
+        b < slot_at(v, a as usize)
     }
 }
 
-// The table of fields, row by row: sort and two numbers of each domain. Beams from row 0, columns from 37, meshes from 54.
-const SORTS: [u32; 65] = [
+// The table of fields, row by row: sort and two numbers of each domain. Beams from row 0, columns from 37, meshes from 54. A loop over rows
+// copies the columns before it: each use of a constant array makes it anew.
+pub const SORTS: [u32; 65] = [
     0,
     0,
     0,
@@ -156,7 +159,7 @@ const SORTS: [u32; 65] = [
     0,
 ];
 
-const FIRSTS: [u32; 65] = [
+pub const FIRSTS: [u32; 65] = [
     100,
     160,
     100,
@@ -224,7 +227,7 @@ const FIRSTS: [u32; 65] = [
     0,
 ];
 
-const SECONDS: [u32; 65] = [
+pub const SECONDS: [u32; 65] = [
     1000,
     2000,
     3000,
@@ -297,29 +300,6 @@ const STARTS: [usize; 4] = [0, 0, 37, 54];
 
 const COUNTS: [usize; 4] = [0, 37, 17, 11];
 
-fn domain_of(sort: u32, a: u32, b: u32) -> Domain
-    ensures { λ r. ⌜ r ≡ decode sort a b ⌝ }
-{
-    match sort {
-        0 => Domain::Range(a, b),
-        1 => Domain::ZeroOr(a, b),
-        2 => Domain::Bar(a, b),
-        3 => Domain::Grade,
-        4 => Domain::Steel,
-        5 => Domain::LinkSteel,
-        6 => Domain::GroupDiameter(a, b),
-        _ => Domain::GroupBars(a, b),
-    }
-}
-
-// A row of the table.
-fn row_at(row: usize) -> Domain
-    requires { ⌜ row < 65 ⌝ }
-    ensures { λ r. ⌜ r ≡ rowAt row ⌝ }
-{
-    domain_of(SORTS[row], FIRSTS[row], SECONDS[row])
-}
-
 // Question 6.
 pub fn is_known(kind: u32) -> bool
     ensures { λ r. ⌜ r ≡ known kind ⌝ }
@@ -335,23 +315,12 @@ pub fn field_count(kind: u32) -> usize
     COUNTS[kind as usize]
 }
 
-// Field i of a kind.
-pub fn domain_at(kind: u32, i: usize) -> Domain
-    requires { ⌜ (known kind ≡ true) × (i < length (fieldsOf kind)) ⌝ }
-    ensures { λ r. ⌜ r ≡ domainAt kind i ⌝ }
+// The first row of a kind in the table.
+pub fn first_row(kind: u32) -> usize
+    requires { ⌜ known kind ≡ true ⌝ }
+    ensures { λ r. ⌜ r ≡ firstRow kind ⌝ }
 {
-    row_at(STARTS[kind as usize] + i)
-}
-
-// Question 7 of the field in slot i.
-fn field_holds(d: Domain, i: usize, t: Slots) -> bool
-    ensures { λ r. ⌜ r ≡ fieldHolds d i (t .v) ⌝ }
-{
-    if is_asked(d, t) {
-        domain_holds(d, slot(t, i))
-    } else {
-        true
-    }
+    STARTS[kind as usize]
 }
 
 // Question 7 of a member.
@@ -360,12 +329,25 @@ pub fn fields_hold(kind: u32, t: Slots) -> bool
     ensures { λ r. ⌜ r ≡ fieldsHold (fieldsOf kind) 0 (t .v) ⌝ }
 {
     let n = field_count(kind);
+    let start = first_row(kind);
+    let sorts = SORTS;
+    let firsts = FIRSTS;
+    let seconds = SECONDS;
+    let v = t.v;
     let mut i: usize = 0;
     while i < n {
-        if field_holds(domain_at(kind, i), i, t) {
-            i += 1;
+        let row = start + i;
+        let sort = sorts[row];
+        let a = firsts[row];
+        let b = seconds[row];
+        if sort_asked(sort, a, b, &v) {
+            if sort_holds(sort, a, b, v[i]) {
+                i += 1;
+            } else {
+                return false;
+            }
         } else {
-            return false;
+            i += 1;
         }
     }
     true

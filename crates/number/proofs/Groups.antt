@@ -1,7 +1,7 @@
 -- The steps of `groupsAt` as the loop of `number_at` takes them, the bounds of its sums, and the inversion: what a value that was read says
 -- of the groups.
 use mathlib.Core.Path.{_≡_, refl, sym, ap, _∙_}
-use mathlib.Core.Bool.{Bool, true, false, _&&_, _||_, false≢true}
+use mathlib.Core.Bool.{Bool, true, false, _&&_, _||_, false≢true, or-true}
 use mathlib.Core.List.{List}
 use mathlib.Core.Logic.{_⊎_, inl, inr, ⊎-elim}
 use Prim.Native.Nat.{ℕ, suc, _+_, _-_, _*_, _^_, _≤_, _<_}
@@ -37,6 +37,13 @@ module _ (s : List ℕ) (left p w v : ℕ) (h : 0 < left) where
   unfolding groupsAt
   group-follows b q e t =
       ap (λ (k : ℕ). groupsAt k s p w v) one-less ∙ rw q (simp (lt-leb _ _ e, le-ltb _ _ (rw q at t)))
+
+-- the only group is the number
+pub only-group : (b next : ℕ) → b < 128 → lastGroup b 1 0 next ≡ Value b next
+unfolding lastGroup
+only-group b next h =
+    let e : 0 + b * 1 ≡ b = omega arith in
+    rw e (simp (or-true, lt-ltb b (2 ^ 32) (omega arith)))
 
 pub none-left : (s : List ℕ) (left p w v : ℕ) → left ≤ 0 → groupsAt left s p w v ≡ Refused NumberForm
 unfolding groupsAt

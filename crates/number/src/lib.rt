@@ -17,15 +17,13 @@ fn wide(x: u8) -> u64
     x as u64
 }
 
-// The number that ends before `next` with the group b of weight w, where v is the value of the groups below.
+// The number that ends before `next` with the group b of weight w, where v is the value of the groups below: it is not the only one.
 fn last_group(b: u64, w: u64, v: u64, next: usize) -> Number
-    requires { ⌜ v + b * w < 2 ^ 64 ⌝ }
+    requires { ⌜ (1 < w) × (v + b * w < 2 ^ 64) ⌝ }
     ensures { λ r. ⌜ r ≡ lastGroup b w v next ⌝ }
 {
     if b == 0 {
-        if w != 1 {
-            return Number::Refused(Question::NumberForm);
-        }
+        return Number::Refused(Question::NumberForm);
     }
     let value = v + b * w;
     if value < 4294967296 {
@@ -39,10 +37,18 @@ fn last_group(b: u64, w: u64, v: u64, next: usize) -> Number
 pub fn number_at(src: &[u8], at: usize) -> Number
     ensures { λ r. ⌜ r ≡ numberAt (now (src .entry)) at ⌝ }
 {
-    let mut left: usize = 5;
-    let mut p: usize = at;
-    let mut w: u64 = 1;
-    let mut v: u64 = 0;
+    if src.len() <= at {
+        return Number::Refused(Question::NumberEnds);
+    }
+    // most numbers are one group
+    let first = wide(src[at]);
+    if first < 128 {
+        return Number::Value(first as u32, at + 1);
+    }
+    let mut left: usize = 4;
+    let mut p: usize = at + 1;
+    let mut w: u64 = 128;
+    let mut v: u64 = first - 128;
     while 0 < left {
         if src.len() <= p {
             return Number::Refused(Question::NumberEnds);

@@ -1,76 +1,39 @@
 -- The steps of reading the fields of a member, as the code takes them.
 use Prim.Native.Nat.{ℕ, _+_, _≤_, _<_}
-use mathlib.Core.Path.{_≡_, refl, sym, ap, _∙_}
-use mathlib.Core.Bool.{Bool, true, false}
-use mathlib.Core.List.{List, map}
-use lib.Dec.{leb, leb→le}
+use mathlib.Core.Path.{_≡_, sym, ap, _∙_}
+use mathlib.Core.Bool.{true, false}
+use mathlib.Core.List.{List}
 use lib.ListN.{length, getD, drop, set, drop-of-length-le}
-use Rattle.standard.proofs.Table.{every-at}
 use Rattle.question.specs.declared.Question.{Question}
 use Rattle.question.specs.declared.Question.the-variants.{Field}
+use Rattle.number.specs.declared.Number.{Number}
 use Rattle.number.specs.declared.Number.the-variants.{Value, Refused}
-use Rattle.number.specs.Number.{numberAt}
 use Rattle.field.specs.declared.Domain.{Domain}
 use Rattle.field.specs.declared.Domain.the-variants.{Range}
 use Rattle.field.specs.Domain.{asked, holds}
-use Rattle.field.specs.Fields.{kinds, fieldsOf, known}
-use Rattle.field.proofs.Tables.{drop-one, known-below, count-of}
-use Rattle.built.specs.declared.Verdict.the-variants.{Accepted}
-use Rattle.schedule.specs.declared.Run.{Run}
-use Rattle.schedule.specs.Reading.{Reading, got, no, Placed, placed, andThen}
-use Rattle.schedule.specs.Schedule.{field, fields}
-use Rattle.schedule.specs.Result.{runOf}
+use Rattle.field.proofs.Tables.{drop-one}
+use Rattle.schedule.specs.Reading.{got, no, placed, andThen, ofNumber}
+use Rattle.schedule.specs.Schedule.{checked, field, fields}
 
--- ---- One field.
-
-module _ (d : Domain) (s : List ℕ) (p i : ℕ) (v : List ℕ) where
-  pub field-absent : asked d v ≡ false → field d s p i v ≡ got (placed v p)
-  unfolding field
-  field-absent a = rw a
-
-  pub field-refused : (q : Question) → asked d v ≡ true → numberAt s p ≡ Refused q → field d s p i v ≡ no q
-  unfolding field
-  field-refused q a n = rw (a, n)
-
-  pub field-outside : (x next : ℕ) → asked d v ≡ true → numberAt s p ≡ Value x next → holds d x ≡ false → field d s p i v ≡ no Field
-  unfolding field
-  field-outside x next a n h = rw (a, n, h)
-
-  pub field-stored : (x next : ℕ) → asked d v ≡ true → numberAt s p ≡ Value x next → holds d x ≡ true
-      → field d s p i v ≡ got (placed (set v i x) next)
-  unfolding field
-  field-stored x next a n h = rw (a, n, h)
-
-pub goes-on : {A : Type 0} (r : Run) (f : Placed (List ℕ) → Reading Question A) → r .verdict ≡ Accepted → andThen (runOf r) f ≡ f (placed (r .slots .v) (r .next))
-goes-on r f e = rw e
-
--- ---- Field by field.
-
--- what is left to read after i fields of a table
-abbrev pub rest : List Domain → List ℕ → ℕ → Placed (List ℕ) → Reading Question (Placed (List ℕ))
-rest fs s i x = fields (drop i fs) s (x .next) i (x .value)
-
-module _ (fs : List Domain) (s : List ℕ) (i : ℕ) where
-  step : i < length fs → (d : Domain) → d ≡ getD fs i (Range 0 0) → (o : Reading Question (Placed (List ℕ)))
-      → andThen o (rest fs s i) ≡ andThen (andThen o (λ x. field d s (x .next) i (x .value))) (rest fs s (i + 1))
+module _ (fs : List Domain) (s : List ℕ) (p i : ℕ) (v : List ℕ) where
+  pub fields-read : length fs ≤ i → fields (drop i fs) s p i v ≡ got (placed v p)
   unfolding fields
-  step h d e (got x) = rw (drop-one fs i h, e)
-  step h d e (no q) = refl
+  fields-read h = rw (drop-of-length-le fs h)
 
-  pub field-turn : i < length fs → (d : Domain) → d ≡ getD fs i (Range 0 0) → (o o′ : Reading Question (Placed (List ℕ)))
-      → o′ ≡ andThen o (λ x. field d s (x .next) i (x .value)) → andThen o (rest fs s i) ≡ andThen o′ (rest fs s (i + 1))
-  field-turn h d e o o′ p = step h d e o ∙ ap (λ (t : Reading Question (Placed (List ℕ))). andThen t (rest fs s (i + 1))) (sym p)
+  module _ (h : i < length fs) (d : Domain) (is : d ≡ getD fs i (Range 0 0)) where
+    step : fields (drop i fs) s p i v ≡ andThen (field d s p i v) (λ r. fields (drop (i + 1) fs) s (r .next) (i + 1) (r .value))
+    unfolding fields
+    step = rw (drop-one fs i h, is)
 
-  pub fields-read : length fs ≤ i → (o : Reading Question (Placed (List ℕ))) → andThen o (rest fs s i) ≡ o
-  unfolding fields
-  fields-read h (got x) = rw (drop-of-length-le fs h)
-  fields-read h (no q) = refl
+    pub field-absent : asked d v ≡ false → fields (drop i fs) s p i v ≡ fields (drop (i + 1) fs) s p (i + 1) v
+    unfolding field
+    field-absent a = step ∙ rw a
 
--- ---- The tables fit the slots.
+    module _ (a : asked d v ≡ true) (n : Number) (e : ofNumber n ≡ checked Field (holds d) s p) where
+      pub field-refused : (q : Question) → n ≡ Refused q → fields (drop i fs) s p i v ≡ no q
+      unfolding field
+      field-refused q f = step ∙ rw (a, sym e ∙ ap ofNumber f)
 
-few : ℕ → ℕ → Bool
-few k n = leb n 40
-
-pub few-fields : (kind : ℕ) → known kind ≡ true → length (fieldsOf kind) ≤ 40
-unfolding few
-few-fields kind e = rw (← count-of kind) (leb→le (getD (map length kinds) kind 0) 40 (every-at few 0 (map length kinds) tt kind (known-below kind e)))
+      pub field-stored : (x next : ℕ) → n ≡ Value x next → fields (drop i fs) s p i v ≡ fields (drop (i + 1) fs) s next (i + 1) (set v i x)
+      unfolding field
+      field-stored x next f = step ∙ rw (a, sym e ∙ ap ofNumber f)

@@ -20,10 +20,9 @@ use Rattle.field.specs.declared.Domain.{Domain}
 use Rattle.field.specs.declared.Domain.the-variants.{Range, ZeroOr, Bar, Grade, Steel, LinkSteel, GroupDiameter, GroupBars}
 use Rattle.field.specs.Domain.{asked, holds, fieldHolds}
 use Rattle.field.specs.Fields.{kinds, fieldsOf, fieldsHold, known}
-use Rattle.field.proofs.Tables.{known-below}
+use Rattle.field.proofs.Tables.{known-below, fields-fit}
 use Rattle.schedule.specs.Reading.{Reading, got, no, Placed, placed, andThen, ask, ofNumber}
 use Rattle.schedule.specs.Schedule.{empty, checked, field, fields}
-use Rattle.schedule.proofs.Fields.{few-fields}
 
 -- ---- Cases.
 
@@ -125,7 +124,7 @@ pub fields-held : (s w : List ℕ) (p q kind : ℕ) → known kind ≡ true → 
     → fieldsHold (fieldsOf kind) 0 w ≡ true
 unfolding End inOrder ordered countBelow fieldsOf
 fields-held s w p q kind k e =
-    held s w q (fieldsOf kind) p 0 empty (in-order kind k) (omega (arith, few-fields kind k)) e .holds-all
+    held s w q (fieldsOf kind) p 0 empty (in-order kind k) (omega (arith, fields-fit kind k)) e .holds-all
   where
     in-order : (kind : ℕ) → known kind ≡ true → ordered 0 (fieldsOf kind) ≡ true
     in-order kind k = T-true _ (every-at inOrder [] kinds tt kind (known-below kind k))

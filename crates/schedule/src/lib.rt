@@ -1,24 +1,26 @@
 // Reads the bytes of a schedule: every byte string is accepted or gets the first question answered no, with its member.
 ghost use mathlib.Core.Path.{_≡_};
 ghost use mathlib.Core.Bool.{true};
-ghost use mathlib.Core.List.{List};
-ghost use Prim.Native.Nat.{ℕ, _+_, _<_, _≤_};
-ghost use lib.ListN.{set};
+ghost use Prim.Native.Nat.{_≤_};
+ghost use Rattle.field.specs.Domain.{holds};
+ghost use Rattle.field.specs.Columns.{decode};
 ghost use Rattle.field.specs.Fields.{fieldsOf, known};
-ghost use Rattle.schedule.specs.Reading.{no, Placed, andThen, ofNumber, refusal};
-ghost use Rattle.schedule.specs.Schedule.{empty, field, fields, whole, markRises, markAt, kindAt, member, members, schedule};
+ghost use Rattle.schedule.specs.Reading.{no, ofNumber, refusal};
+ghost use Rattle.schedule.specs.Schedule.{empty, checked, fields, whole, markRises, markAt, kindAt, member, members, schedule};
 ghost use Rattle.schedule.specs.Result.{runOf, readOf, endsOf, placeAfter, answerOf};
 use built::Built;
 use built::Verdict;
 use built::mark_in_range;
 use built::member_verdict;
-use field::Domain;
+use field::FIRSTS;
+use field::SECONDS;
+use field::SORTS;
 use field::Slots;
-use field::domain_at;
-use field::domain_holds;
 use field::field_count;
-use field::is_asked;
+use field::first_row;
 use field::is_known;
+use field::sort_asked;
+use field::sort_holds;
 use number::Number;
 use number::number_at;
 use quantity::both;
@@ -66,15 +68,6 @@ fn no_slots() -> Slots
     Slots { v: [0; 40] }
 }
 
-fn stored(t: Slots, i: usize, x: u32) -> Slots
-    requires { ⌜ i < 40 ⌝ }
-    ensures { λ r. ⌜ r .v ≡ set (t .v) i x ⌝ }
-{
-    let mut u = t;
-    u.v[i] = x;
-    u
-}
-
 fn refused_run(q: Question) -> Run
     ensures { λ r. ⌜ runOf r ≡ no q ⌝ }
 {
@@ -85,45 +78,19 @@ fn refused_run(q: Question) -> Run
     }
 }
 
-// The field of domain d at p, into slot i.
-fn read_field(src: &[u8], d: Domain, p: usize, i: usize, t: Slots) -> Run
-    requires { ⌜ i < 40 ⌝ }
-    ensures { λ r. ⌜ runOf r ≡ field d (now (src .entry)) p i (t .v) ⌝ }
+// The field at `at`, its domain of this sort with the numbers a and b: questions 2, 3 and 7.
+fn read_field(src: &[u8], at: usize, sort: u32, a: u32, b: u32) -> Number
+    ensures { λ r. ⌜ ofNumber r ≡ checked Question.Field (holds (decode sort a b)) (now (src .entry)) at ⌝ }
 {
-    if is_asked(d, t) {
-        match number_at(src, p) {
-            Number::Refused(q) => refused_run(q),
-            Number::Value(x, next) => {
-                if domain_holds(d, x) {
-                    Run {
-                        verdict: Verdict::Accepted,
-                        next,
-                        slots: stored(t, i, x),
-                    }
-                } else {
-                    refused_run(Question::Field)
-                }
+    match number_at(src, at) {
+        Number::Refused(q) => Number::Refused(q),
+        Number::Value(x, next) => {
+            if sort_holds(sort, a, b, x) {
+                Number::Value(x, next)
+            } else {
+                Number::Refused(Question::Field)
             }
         }
-    } else {
-        Run {
-            verdict: Verdict::Accepted,
-            next: p,
-            slots: t,
-        }
-    }
-}
-
-// One field more, unless the run is refused.
-fn read_on(src: &[u8], r: Run, d: Domain, i: usize) -> Run
-    requires { ⌜ i < 40 ⌝ }
-    ensures { λ q. ⌜ runOf q ≡ andThen (runOf r) (λ (x : Placed (List ℕ)). field d (now (src .entry)) (x .next) i (x .value)) ⌝ }
-{
-    let verdict = r.verdict;
-    let slots = r.slots;
-    match verdict {
-        Verdict::Accepted => read_field(src, d, r.next, i, slots),
-        Verdict::Refused(_) => r,
     }
 }
 
@@ -133,17 +100,37 @@ fn read_fields(src: &[u8], at: usize, kind: u32) -> Run
     ensures { λ r. ⌜ runOf r ≡ fields (fieldsOf kind) (now (src .entry)) at 0 empty ⌝ }
 {
     let n = field_count(kind);
-    let mut run = Run {
-        verdict: Verdict::Accepted,
-        next: at,
-        slots: no_slots(),
-    };
+    let start = first_row(kind);
+    let sorts = SORTS;
+    let firsts = FIRSTS;
+    let seconds = SECONDS;
+    let mut v = [0u32; 40];
+    let mut p = at;
     let mut i: usize = 0;
     while i < n {
-        run = read_on(src, run, domain_at(kind, i), i);
-        i += 1;
+        let row = start + i;
+        let sort = sorts[row];
+        let a = firsts[row];
+        let b = seconds[row];
+        if sort_asked(sort, a, b, &v) {
+            match read_field(src, p, sort, a, b) {
+                Number::Refused(q) => return refused_run(q),
+                Number::Value(x, next) => {
+                    v[i] = x;
+                    p = next;
+                    i += 1;
+                }
+            }
+        } else {
+            i += 1;
+        }
     }
-    run
+    let slots = Slots { v };
+    Run {
+        verdict: Verdict::Accepted,
+        next: p,
+        slots,
+    }
 }
 
 fn refused_member(q: Question) -> MemberRead

@@ -1,42 +1,89 @@
 -- `schedule::read_fields` meets its contract.
-use Prim.Native.Nat.{_-_}
-use mathlib.Core.Path.{_≡_, sym, _∙_}
-use lib.ListN.{length}
+use Prim.Native.Nat.{_+_, _-_, _≤_, _<_}
+use mathlib.Core.Path.{_≡_, refl, sym, _∙_}
+use lib.ListN.{length, drop}
 use native.Mathlib.Omega.{arith}
 use borrow.Author.Needs.{needs}
-use Rattle.field.specs.Fields.{fieldsOf, domainAt}
-use Rattle.schedule.specs.Reading.{andThen}
+use Rattle.field.specs.Fields.{fieldsOf}
+use Rattle.field.specs.Columns.{firstRow}
+use Rattle.field.proofs.Tables.{row-of, fields-fit}
 use Rattle.schedule.specs.Schedule.{empty, fields}
-use Rattle.schedule.specs.Result.{runOf}
-use Rattle.schedule.proofs.Fields.{rest, field-turn, fields-read, few-fields}
+use Rattle.schedule.proofs.Fields.{fields-read, field-absent, field-refused, field-stored}
 use Rattle.schedule.proofs.read_fields.Statement.{statement}
 use Rattle.schedule.proofs.read_fields.Tie as tie
 
 abbrev Inv-loop : tie.InvT-loop
-Inv-loop src at kind n run₀ i₀ run i = (n ≡ length (fieldsOf kind)) × (fields (fieldsOf kind) src at 0 empty ≡ andThen (runOf run) (rest (fieldsOf kind) src i))
+Inv-loop src at kind n start sorts firsts seconds v₀ p₀ i₀ v p i =
+    (n ≡ length (fieldsOf kind)) × (start ≡ firstRow kind) × (n ≤ 40) × (start + n ≤ 65) × (length v ≡ 40) × (fields (fieldsOf kind) src at 0 empty ≡ fields (drop i (fieldsOf kind)) src p i v)
 
 abbrev μ-loop : tie.MeasureT-loop
-μ-loop src at kind n run₀ i₀ run i = n - i
+μ-loop src at kind n start sorts firsts seconds v₀ p₀ i₀ v p i = n - i
 
 field-count-requires : tie.Need-field-count-requires Inv-loop μ-loop
 field-count-requires c κs = search needs
 
-no-slots-requires : tie.Need-no-slots-requires Inv-loop μ-loop
-no-slots-requires c κs = search needs
+first-row-requires : tie.Need-first-row-requires Inv-loop μ-loop
+first-row-requires c κs = search needs
 
 loop-holds : tie.Need-loop-holds Inv-loop μ-loop
-loop-holds c = (search needs, rw (c .no-slots .ensures))
+loop-holds c = let f = fields-fit _ (c .before .before .before .pre) in (search needs, search needs, search needs, search needs, refl, refl)
 
-domain-at-requires : tie.Need-domain-at-requires Inv-loop μ-loop
-domain-at-requires c κs =
-    let l = c .before in
-    (l .before .before .before .before .pre, omega (arith, l .loop .inv .0))
+add-row : tie.Need-add-row Inv-loop μ-loop
+add-row c = search needs
 
-read-on-requires : tie.Need-read-on-requires Inv-loop μ-loop
-read-on-requires c κs =
-    let l = c .before .before in
+mul-sort : tie.Need-mul-sort Inv-loop μ-loop
+mul-sort c = search needs
+
+array-read-sort : tie.Need-array-read-sort Inv-loop μ-loop
+array-read-sort c = search needs
+
+mul-a : tie.Need-mul-a Inv-loop μ-loop
+mul-a c = search needs
+
+array-read-a : tie.Need-array-read-a Inv-loop μ-loop
+array-read-a c = search needs
+
+mul-b : tie.Need-mul-b Inv-loop μ-loop
+mul-b c = search needs
+
+array-read-b : tie.Need-array-read-b Inv-loop μ-loop
+array-read-b c = search needs
+
+slice-aggregate-sort-asked : tie.Need-slice-aggregate-sort-asked Inv-loop μ-loop
+slice-aggregate-sort-asked c = search needs
+
+sort-asked-requires : tie.Need-sort-asked-requires Inv-loop μ-loop
+sort-asked-requires c κs = search needs
+
+read-field-requires : tie.Need-read-field-requires Inv-loop μ-loop
+read-field-requires c κs = search needs
+
+enum-known-q : tie.Need-enum-known-q Inv-loop μ-loop
+enum-known-q c = search needs
+
+refused-run-requires : tie.Need-refused-run-requires Inv-loop μ-loop
+refused-run-requires c κs = search needs
+
+returns : tie.Need-returns Inv-loop μ-loop
+returns c =
+    let x = c .before .before in
+    let r = x .before .before in
+    let a = r .before .before in
+    let l = a .before .before .before in
     let s = l .before .before .before .before in
-    omega (arith, l .loop .inv .0, few-fields (s .args .kind) (s .pre))
+    let h : l .loop .i < length (fieldsOf (s .args .kind)) = omega (arith, l .loop .inv .0) in
+    c .refused-run .ensures
+    ∙ sym (l .loop .inv .5 ∙ field-refused (fieldsOf (s .args .kind)) (s .args .src .now) (l .loop .p) (l .loop .i) (l .loop .v) h _ (row-of _ _ _ (l .loop .inv .1) h)
+    (sym (a .sort-asked .ensures) ∙ r .before .if1 .taken) _ (r .read-field .ensures) _ (x .q .given .1))
+
+enum-known-x : tie.Need-enum-known-x Inv-loop μ-loop
+enum-known-x c = search needs
+
+mul-v : tie.Need-mul-v Inv-loop μ-loop
+mul-v c = search needs
+
+array-write-v : tie.Need-array-write-v Inv-loop μ-loop
+array-write-v c = search needs
 
 add-i : tie.Need-add-i Inv-loop μ-loop
 add-i c = search needs
@@ -45,18 +92,47 @@ loop-less : tie.Need-loop-less Inv-loop μ-loop
 loop-less c = search needs
 
 loop-again : tie.Need-loop-again Inv-loop μ-loop
-unfolding domainAt
 loop-again c =
-    let d = c .before in
-    let l = d .before .before in
+    let x = c .before in
+    let r = x .before .before in
+    let a = r .before .before in
+    let l = a .before .before .before in
     let s = l .before .before .before .before in
-    (l .loop .inv .0, l .loop .inv .1 ∙ field-turn (fieldsOf (s .args .kind)) (s .args .src .now) (l .loop .i) (omega (arith, l .loop .inv .0)) _ (d .domain-at .ensures) (runOf (l .loop .run)) (runOf (c .read-on .result)) (c .read-on .ensures))
+    let h : l .loop .i < length (fieldsOf (s .args .kind)) = omega (arith, l .loop .inv .0) in (
+      l .loop .inv .0,
+      l .loop .inv .1,
+      l .loop .inv .2,
+      l .loop .inv .3,
+      search needs,
+      l .loop .inv .5 ∙ field-stored (fieldsOf (s .args .kind)) (s .args .src .now) (l .loop .p) (l .loop .i) (l .loop .v) h _ (row-of _ _ _ (l .loop .inv .1) h)
+          (sym (a .sort-asked .ensures) ∙ r .before .if1 .taken) _ (r .read-field .ensures) _ _ (x .x .given .1),
+    )
 
-returns : tie.Need-returns Inv-loop μ-loop
-returns c =
+add-i-2 : tie.Need-add-i-2 Inv-loop μ-loop
+add-i-2 c = search needs
+
+loop-less-2 : tie.Need-loop-less-2 Inv-loop μ-loop
+loop-less-2 c = search needs
+
+loop-again-2 : tie.Need-loop-again-2 Inv-loop μ-loop
+loop-again-2 c =
+    let a = c .before in
+    let l = a .before .before .before in
+    let s = l .before .before .before .before in
+    let h : l .loop .i < length (fieldsOf (s .args .kind)) = omega (arith, l .loop .inv .0) in (
+      l .loop .inv .0,
+      l .loop .inv .1,
+      l .loop .inv .2,
+      l .loop .inv .3,
+      l .loop .inv .4,
+      l .loop .inv .5 ∙ field-absent (fieldsOf (s .args .kind)) (s .args .src .now) (l .loop .p) (l .loop .i) (l .loop .v) h _ (row-of _ _ _ (l .loop .inv .1) h) (sym (a .sort-asked .ensures) ∙ c .if1 .left),
+    )
+
+returns-2 : tie.Need-returns-2 Inv-loop μ-loop
+returns-2 c =
     let l = c .before in
     let s = l .before .before .before .before in
-    sym (l .loop .inv .1 ∙ fields-read (fieldsOf (s .args .kind)) (s .args .src .now) (l .loop .i) (omega (arith, l .loop .inv .0)) (runOf (l .loop .run)))
+    sym (l .loop .inv .5 ∙ fields-read (fieldsOf (s .args .kind)) _ _ (l .loop .i) _ (omega (arith, l .loop .inv .0)))
 
 pub read-fields-spec : {M : Type 1} → statement M
 read-fields-spec =
@@ -65,11 +141,28 @@ read-fields-spec =
     Inv-loop
     μ-loop
     field-count-requires
-    no-slots-requires
+    first-row-requires
     loop-holds
-    domain-at-requires
-    read-on-requires
+    add-row
+    mul-sort
+    array-read-sort
+    mul-a
+    array-read-a
+    mul-b
+    array-read-b
+    slice-aggregate-sort-asked
+    sort-asked-requires
+    read-field-requires
+    enum-known-q
+    refused-run-requires
+    returns
+    enum-known-x
+    mul-v
+    array-write-v
     add-i
     loop-less
     loop-again
-    returns)
+    add-i-2
+    loop-less-2
+    loop-again-2
+    returns-2)
