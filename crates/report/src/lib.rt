@@ -83,7 +83,7 @@ fn no_room(member: u32) -> Answer
 }
 
 // The report of `count` members from `at` on. The first run only finds how long it is.
-fn print_report(src: &[u8], at: usize, count: u32, out: &mut [u8]) -> Answer
+fn print_measured(src: &[u8], at: usize, count: u32, out: &mut [u8]) -> Answer
     ensures { λ r. ⌜ Printed 0 (lineText (headWords count) ++ linesFrom count (now (src .entry)) at 0) (now (out .entry)) (now (out .exit)) r ⌝ }
 {
     let mut none = [0u8; 1];
@@ -92,6 +92,17 @@ fn print_report(src: &[u8], at: usize, count: u32, out: &mut [u8]) -> Answer
         no_room(0)
     } else {
         Answer::Written(put_report(src, at, count, out))
+    }
+}
+
+// The same. No first line is longer than 19 bytes and no other than 55, so a buffer of that size needs no first run.
+fn print_report(src: &[u8], at: usize, count: u32, out: &mut [u8]) -> Answer
+    ensures { λ r. ⌜ Printed 0 (lineText (headWords count) ++ linesFrom count (now (src .entry)) at 0) (now (out .entry)) (now (out .exit)) r ⌝ }
+{
+    if 19 + 55 * (count as usize) <= out.len() {
+        Answer::Written(put_report(src, at, count, out))
+    } else {
+        print_measured(src, at, count, out)
     }
 }
 
