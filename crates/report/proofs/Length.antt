@@ -11,13 +11,18 @@ use Rattle.member.specs.Member.{Member, beam, column, mesh}
 use Rattle.member.specs.Accepted.{AcceptedMember, AcceptedMembers}
 use Rattle.question.specs.declared.Question.{Question}
 use Rattle.built.specs.declared.Built.{Built}
+use Rattle.built.specs.declared.Verdict.the-variants.{Accepted}
 use Rattle.built.specs.Slots.{memberOf}
+use Rattle.built.specs.Verdict.{builtVerdict}
+use Rattle.built.proofs.Accepted.{accepted-built}
+use Rattle.outcome.specs.declared.Outcome.{Outcome}
 use Rattle.schedule.specs.Reading.{Reading, Placed, got, no}
 use Rattle.schedule.specs.Schedule.{member}
 use Rattle.schedule.proofs.Accepted.{member-was}
 use Rattle.checks.specs.Outcome.{markOf, outcomeOf}
 use Rattle.checks.proofs.Figures.{member-short}
 use Rattle.report.specs.Report.{reportText, memberText, linesFrom, withMember}
+use Rattle.report.proofs.Lines.{mark-of}
 
 mark-short : (m : Member) → AcceptedMember m → markOf m < 10 ^ 6
 mark-short (beam mark x) a = omega (arith, a .0 .1)
@@ -29,6 +34,11 @@ pub member-line-short : (m : Member) → AcceptedMember m → length (memberText
 member-line-short m a =
     let f = member-short m a in
     line-short 6 9 (markOf m) (outcomeOf m) (omega arith) (omega arith) (mark-short m a) (f .first) (f .second) (f .third) (f .fourth)
+
+pub line-fits : (x : Built) (o : Outcome) → builtVerdict (x .mark) (x .kind) (x .fields .v) ≡ Accepted → o ≡ outcomeOf (memberOf x) →
+    length (lineText (lineWords (x .mark) o)) ≤ 55
+line-fits x o v e =
+    rw (← mark-of (x .mark) (x .kind) (x .fields .v), e) (member-line-short (memberOf x) (accepted-built (x .mark) (x .kind) (x .fields .v) v))
 
 lines-short : (ms : List Member) → AcceptedMembers ms → All (λ l. length (lineText l) ≤ 55) (map (λ m. lineWords (markOf m) (outcomeOf m)) ms)
 lines-short [] a = all-none
