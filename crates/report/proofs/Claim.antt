@@ -42,13 +42,16 @@ use Rattle.report.proofs.Lines.{report-lines, mark-of}
 
 -- ---- What the two runs give.
 
+-- a text that fits
+pub printed-whole : (whose : ℕ) (text d : List ℕ) {d′ : List ℕ} {r : ℕ} → length text ≤ length d → Put d 0 text d′ r → Printed whose text d d′ (Written r)
+printed-whole whose text d {r = r} short w =
+    let s = le-leb (length text) (length d) short in
+    let l : r ≡ length text = learnt-length w (omega (arith, w .short)) in
+    record { answer-is = rw s (ap Written l); buffer-is = rw s (put-whole w short) }
+
 module _ (whose : ℕ) (text d : List ℕ) (e e′ : List ℕ) (n : ℕ) (first : Put e 0 text e′ n) where
   pub printed : {d′ : List ℕ} {r : ℕ} → length d < lastPosition → n ≤ length d → Put d 0 text d′ r → Printed whose text d d′ (Written r)
-  printed {r = r} k h w =
-      let short : length text ≤ length d = fits first k h in
-      let s = le-leb (length text) (length d) short in
-      let l : r ≡ length text = learnt-length w (omega arith) in
-      record { answer-is = rw s (ap Written l); buffer-is = rw s (put-whole w short) }
+  printed k h w = printed-whole whose text d (fits first k h) w
 
   pub unprinted : {a : Answer} → a ≡ Refused (refusal Buffer whose) → length d < n → Printed whose text d d a
   unprinted q h =

@@ -1,17 +1,28 @@
 -- How long a report can be.
-use Prim.Native.Nat.{ℕ, _^_, _≤_, _<_}
-use mathlib.Core.Path.{_≡_}
-use mathlib.Core.List.{List, [], _∷_, map}
+use Prim.Native.Nat.{ℕ, zero, suc, _+_, _*_, _^_, _≤_, _<_}
+use mathlib.Core.Path.{_≡_, refl}
+use mathlib.Core.List.{List, [], _∷_, _++_, map}
 use native.Mathlib.Omega.{arith}
-use lib.ListN.{length, length-map}
+use lib.ListN.{length, length-append, length-map}
 use Rattle.text.proofs.All.{All, all-none, all-and}
 use Rattle.line.specs.Line.{lineWords, headWords, lineText}
 use Rattle.line.proofs.Length.{line-short, head-short, text-short}
 use Rattle.member.specs.Member.{Member, beam, column, mesh}
 use Rattle.member.specs.Accepted.{AcceptedMember, AcceptedMembers}
+use Rattle.question.specs.declared.Question.{Question}
+use Rattle.built.specs.declared.Built.{Built}
+use Rattle.built.specs.declared.Verdict.the-variants.{Accepted}
+use Rattle.built.specs.Slots.{memberOf}
+use Rattle.built.specs.Verdict.{builtVerdict}
+use Rattle.built.proofs.Accepted.{accepted-built}
+use Rattle.outcome.specs.declared.Outcome.{Outcome}
+use Rattle.schedule.specs.Reading.{Reading, Placed, got, no}
+use Rattle.schedule.specs.Schedule.{member}
+use Rattle.schedule.proofs.Accepted.{member-was}
 use Rattle.checks.specs.Outcome.{markOf, outcomeOf}
 use Rattle.checks.proofs.Figures.{member-short}
-use Rattle.report.specs.Report.{reportText, memberText}
+use Rattle.report.specs.Report.{reportText, memberText, linesFrom, withMember}
+use Rattle.report.proofs.Lines.{mark-of}
 
 mark-short : (m : Member) → AcceptedMember m → markOf m < 10 ^ 6
 mark-short (beam mark x) a = omega (arith, a .0 .1)
@@ -24,6 +35,11 @@ member-line-short m a =
     let f = member-short m a in
     line-short 6 9 (markOf m) (outcomeOf m) (omega arith) (omega arith) (mark-short m a) (f .first) (f .second) (f .third) (f .fourth)
 
+pub line-fits : (x : Built) (o : Outcome) → builtVerdict (x .mark) (x .kind) (x .fields .v) ≡ Accepted → o ≡ outcomeOf (memberOf x) →
+    length (lineText (lineWords (x .mark) o)) ≤ 55
+line-fits x o v e =
+    rw (← mark-of (x .mark) (x .kind) (x .fields .v), e) (member-line-short (memberOf x) (accepted-built (x .mark) (x .kind) (x .fields .v) v))
+
 lines-short : (ms : List Member) → AcceptedMembers ms → All (λ l. length (lineText l) ≤ 55) (map (λ m. lineWords (markOf m) (outcomeOf m)) ms)
 lines-short [] a = all-none
 lines-short (m ∷ ms) a = all-and (member-line-short m (a .0)) (lines-short ms (a .1))
@@ -32,3 +48,20 @@ pub report-short : (ms : List Member) → AcceptedMembers ms → length ms ≤ 5
 report-short ms a h =
     let head : length (lineText (headWords (length ms))) ≤ 55 = omega (arith, head-short 3 (length ms) (omega arith) (omega arith)) in
     omega (arith, text-short 55 (all-and head (lines-short ms a)), length-map ms (λ m. lineWords (markOf m) (outcomeOf m)))
+
+-- the lines of members read one after the other
+lines-most : (n : ℕ) (s : List ℕ) (p before : ℕ) → length (linesFrom n s p before) ≤ 55 * n
+unfolding linesFrom
+lines-most zero s p before = omega arith
+lines-most (suc n) s p before = go (λ q b. lines-most n s q b) (member s p before) refl
+  where
+    go : ((q b : ℕ) → length (linesFrom n s q b) ≤ 55 * n) → (o : Reading Question (Placed Built)) → member s p before ≡ o →
+        length (withMember o (λ b. memberText (memberOf (b .value)) ++ linesFrom n s (b .next) (b .value .mark))) ≤ 55 * suc n
+    go h (got b) e =
+        let m = memberOf (b .value) in
+        rw length-append (omega (arith, h (b .next) (b .value .mark), member-line-short m (member-was s p before (b .value) (b .next) e .accepted)))
+    go h (no q) e = omega arith
+
+pub report-fits : (count : ℕ) (s : List ℕ) (p : ℕ) {n : ℕ} → count < 2 ^ 32 → 19 + 55 * count ≤ n →
+    length (lineText (headWords count) ++ linesFrom count s p 0) ≤ n
+report-fits count s p h k = rw length-append (omega (arith, head-short 10 count (omega arith) (omega arith), lines-most count s p 0))

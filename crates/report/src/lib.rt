@@ -1,6 +1,8 @@
 // The report of a schedule, and the line of one built member, into a lent buffer.
 ghost use mathlib.Core.Path.{_≡_};
 ghost use mathlib.Core.List.{_++_};
+ghost use Prim.Native.Nat.{_≤_};
+ghost use lib.ListN.{length};
 ghost use Rattle.text.specs.Put.{Put};
 ghost use Rattle.line.specs.Line.{headWords, lineWords, lineText};
 ghost use Rattle.number.specs.Number.{numberAt};
@@ -83,7 +85,7 @@ fn no_room(member: u32) -> Answer
 }
 
 // The report of `count` members from `at` on. The first run only finds how long it is.
-fn print_report(src: &[u8], at: usize, count: u32, out: &mut [u8]) -> Answer
+fn print_measured(src: &[u8], at: usize, count: u32, out: &mut [u8]) -> Answer
     ensures { λ r. ⌜ Printed 0 (lineText (headWords count) ++ linesFrom count (now (src .entry)) at 0) (now (out .entry)) (now (out .exit)) r ⌝ }
 {
     let mut none = [0u8; 1];
@@ -92,6 +94,17 @@ fn print_report(src: &[u8], at: usize, count: u32, out: &mut [u8]) -> Answer
         no_room(0)
     } else {
         Answer::Written(put_report(src, at, count, out))
+    }
+}
+
+// The same. No first line is longer than 19 bytes and no other than 55, so a buffer of that size needs no first run.
+fn print_report(src: &[u8], at: usize, count: u32, out: &mut [u8]) -> Answer
+    ensures { λ r. ⌜ Printed 0 (lineText (headWords count) ++ linesFrom count (now (src .entry)) at 0) (now (out .entry)) (now (out .exit)) r ⌝ }
+{
+    if 19 + 55 * (count as usize) <= out.len() {
+        Answer::Written(put_report(src, at, count, out))
+    } else {
+        print_measured(src, at, count, out)
     }
 }
 
@@ -106,7 +119,7 @@ pub fn report(src: &[u8], out: &mut [u8]) -> Answer
 }
 
 // A line alone. The first run only finds how long it is.
-fn print_line(mark: u32, o: Outcome, out: &mut [u8]) -> Answer
+fn print_measured_line(mark: u32, o: Outcome, out: &mut [u8]) -> Answer
     ensures { λ r. ⌜ Printed 1 (lineText (lineWords mark o)) (now (out .entry)) (now (out .exit)) r ⌝ }
 {
     let mut none = [0u8; 1];
@@ -115,6 +128,18 @@ fn print_line(mark: u32, o: Outcome, out: &mut [u8]) -> Answer
         no_room(1)
     } else {
         Answer::Written(put_line(out, 0, mark, o))
+    }
+}
+
+// The same of a line that is at most 55 bytes long.
+fn print_line(mark: u32, o: Outcome, out: &mut [u8]) -> Answer
+    requires { ⌜ length (lineText (lineWords mark o)) ≤ 55 ⌝ }
+    ensures { λ r. ⌜ Printed 1 (lineText (lineWords mark o)) (now (out .entry)) (now (out .exit)) r ⌝ }
+{
+    if 55 <= out.len() {
+        Answer::Written(put_line(out, 0, mark, o))
+    } else {
+        print_measured_line(mark, o, out)
     }
 }
 

@@ -1,51 +1,52 @@
--- The table of bars: its areas by diameter, and its rule.
-use Prim.Native.Nat.{ℕ, _≤_}
-use mathlib.Core.Path.{_≡_, sym, _∙_}
-use mathlib.Core.Bool.{Bool, _||_}
+-- The table of bars: its areas by formula, and its rule.
+use Prim.Native.Nat.{ℕ, _+_, _*_, _/_, _≤_}
+use mathlib.Core.Path.{_≡_, refl, sym, ap, _∙_}
+use mathlib.Core.Bool.{Bool, true, false, _||_}
 use borrow.Author.Tests.{le-ltb}
-use mathlib.Core.List.{List, [], _∷_}
-use native.Mathlib.Decide.{decLe}
+use mathlib.Core.List.{List}
+use native.Mathlib.Nat.{mul-assoc, mul-le-mul, mul-le-mul-left}
 use native.Mathlib.Omega.{arith}
 use lib.Dec.{eqb, eqb→eq, leb, leb→le, ltb}
-use lib.ListN.{getD, List·getD-eq-default}
+use lib.ListN.{getD}
+use Rattle.standard.specs.Table.{cell, listed}
 use Rattle.standard.specs.Bars.{bars, areaOf}
-use Rattle.standard.proofs.Table.{every-at, no-row}
+use Rattle.standard.proofs.Table.{listed-rule, listed-key, unlisted-cell, cell-between}
 
--- the areas by diameter from 0 on, as the code has them
-unfoldable pub byDiameter : List ℕ
-byDiameter =
-    0 ∷ 0 ∷ 0 ∷ 0 ∷ 0 ∷ 196 ∷ 283 ∷ 0 ∷ 503 ∷ 0 ∷ 785 ∷ 0 ∷ 1131 ∷ 0 ∷ 1539 ∷ 0 ∷ 2011 ∷ 0 ∷ 2545 ∷ 0 ∷ 3142 ∷ 0 ∷ 3801 ∷ 0 ∷ 0 ∷ 4909 ∷ 0 ∷ 0 ∷ 6158 ∷ 0 ∷ 0 ∷ 0 ∷ 8042 ∷ 0 ∷ 0 ∷ 0 ∷ 10179 ∷ 0 ∷ 0 ∷ 0 ∷ 12566 ∷ 0 ∷ 0 ∷ 0 ∷ 0 ∷ 0 ∷ 0 ∷ 0 ∷ 0 ∷ 0 ∷ 19635 ∷ []
+-- every area of the table is 0.7854·d², rounded to a tenth of mm²
+unfoldable pub rounded : ℕ → ℕ
+rounded d = (7854 * d * d + 500) / 1000
 
-same : ℕ → ℕ → Bool
-same d a = eqb a (areaOf d)
+pub listed-area : (d : ℕ) → listed d bars ≡ true → areaOf d ≡ rounded d
+unfolding areaOf rounded
+listed-area d e =
+    eqb→eq _ _ (listed-rule (λ (r : List ℕ). eqb (getD r 1 0) (rounded (getD r 0 0))) d bars 0 tt e) ∙ ap rounded (listed-key d bars e)
 
-pub by-diameter : (d : ℕ) → getD byDiameter d 0 ≡ areaOf d
-unfolding byDiameter areaOf same
-by-diameter d = go (decLe 51 d)
-  where
-    go : Dec (51 ≤ d) → getD byDiameter d 0 ≡ areaOf d
-    go (yes h) = List·getD-eq-default byDiameter 0 h ∙ sym (no-row 51 d 1 bars tt h)
-    go (no h) = eqb→eq (getD byDiameter d 0) (areaOf d) (every-at same 0 byDiameter tt d (omega arith))
+pub unlisted-area : (d : ℕ) → listed d bars ≡ false → areaOf d ≡ 0
+unfolding areaOf
+unlisted-area d e = unlisted-cell d 1 bars e
 
-most : ℕ → ℕ → Bool
-most d a = leb a 19635
+-- what the formula multiplies stays small
+pub square-most : (d : ℕ) → listed d bars ≡ true → (d ≤ 50) × (7854 * d * d ≤ 19635000)
+square-most d e =
+    let h : d ≤ 50 = rw (listed-key d bars e) at (cell-between 0 0 50 d bars tt e .1) in
+    (h, rw (mul-assoc 7854 d d) (mul-le-mul-left 7854 (mul-le-mul h h)))
 
 -- no bar is larger than the last of the table
 pub area-most : (d : ℕ) → areaOf d ≤ 19635
-unfolding byDiameter most
-area-most d = rw (← by-diameter d) (go (decLe 51 d))
+unfolding areaOf
+area-most d = go (listed d bars) refl
   where
-    go : Dec (51 ≤ d) → getD byDiameter d 0 ≤ 19635
-    go (yes h) = rw (List·getD-eq-default byDiameter 0 h) (omega arith)
-    go (no h) = leb→le (getD byDiameter d 0) 19635 (every-at most 0 byDiameter tt d (omega arith))
-
-small : ℕ → ℕ → Bool
-small d a = ltb 12 d || leb a 1131
+    go : (t : Bool) → listed d bars ≡ t → cell d 1 bars ≤ 19635
+    go true e = cell-between 1 0 19635 d bars tt e .1
+    go false e = rw (unlisted-cell d 1 bars e) (omega arith)
 
 -- no bar up to 12 mm is larger than that of 12 mm
 pub link-area-most : (d : ℕ) → d ≤ 12 → areaOf d ≤ 1131
-unfolding byDiameter small
-link-area-most d h =
-    let a = getD byDiameter d 0 in
-    let t = every-at small 0 byDiameter tt d (omega arith) in
-    rw (← by-diameter d) (leb→le a 1131 (rw (le-ltb 12 d h) at t))
+unfolding areaOf
+link-area-most d h = go (listed d bars) refl
+  where
+    go : (t : Bool) → listed d bars ≡ t → cell d 1 bars ≤ 1131
+    go true e =
+        let t = listed-rule (λ (r : List ℕ). ltb 12 (getD r 0 0) || leb (getD r 1 0) 1131) d bars 0 tt e in
+        leb→le (cell d 1 bars) 1131 (rw (listed-key d bars e, le-ltb 12 d h) at t)
+    go false e = rw (unlisted-cell d 1 bars e) (omega arith)

@@ -1,17 +1,18 @@
--- Laws of tables: a rule tested at every entry holds at each; the columns of a table are the table; the steps of a search by key.
+-- Laws of tables: a rule tested at every entry holds at each; which keys are listed.
 use Prim.Native.Nat.{ℕ, zero, suc, _+_, _*_, _≤_, _<_}
 use mathlib.Core.Path.{_≡_, refl, sym, ap, _∙_, subst}
 use mathlib.Core.Bool.{Bool, true, false, _&&_, _||_}
 use mathlib.Core.List.{List, [], _∷_, _++_, map}
 use native.Mathlib.Nat.{mul-suc, add-zero, zero-add, add-suc, suc-add, le-of-suc-le-suc, not-suc-le-zero}
-use native.Mathlib.Numerals.{add-one}
 use native.Mathlib.Omega.{arith}
-use lib.Dec.{T, eqb, leb, ltb, ltb→lt, leb→le, leb·suc-suc}
-use lib.ListN.{length, getD, drop, drop-of-length-le, List·getD-append}
-use lib.Seq.{drop-cons, getD-append-add}
-use borrow.Author.Tests.{eq-eqb, ne-eqb, lt-ltb}
+use lib.Dec.{T, eqb, eqb→eq, leb, leb→le}
+use lib.ListN.{length, getD, List·getD-append}
+use lib.Seq.{getD-append-add}
+use borrow.Author.Tests.{eq-eqb, ne-eqb}
 use Rattle.quantity.specs.Choice.{if_then_else_}
-use Rattle.standard.specs.Table.{row, cell, listed, place}
+use mathlib.Core.Logic.{inl, inr}
+use types.Run.{OneOf}
+use Rattle.standard.specs.Table.{row, cell, listed}
 
 -- ---- A rule of a table, by one test that computes over all of it.
 
@@ -44,29 +45,38 @@ every-at f d xs t k h = subst (λ (m : ℕ). T (f m (getD xs k d))) (zero-add k)
 abbrev pub column : ℕ → List (List ℕ) → List ℕ
 column j rows = map (λ (r : List ℕ). getD r j 0) rows
 
--- a cell stands in its column at the place of its key
-pub cell-column : (k j : ℕ) (rows : List (List ℕ)) → cell k j rows ≡ getD (column j rows) (place k (column 0 rows)) 0
-cell-column k j [] = refl
-cell-column k j (r ∷ rs) = go (cell-column k j rs) (eqb k (getD r 0 0))
+-- a key among those of a table is listed, and any other is not
+pub key-listed : (k : ℕ) (rows : List (List ℕ)) → OneOf (column 0 rows) k → listed k rows ≡ true
+key-listed k [] h = absurd h
+key-listed k (r ∷ []) h = simp (eq-eqb _ _ h)
+key-listed k (r ∷ s ∷ rs) (inl h) = simp (eq-eqb _ _ h)
+key-listed k (r ∷ s ∷ rs) (inr h) = go (key-listed k (s ∷ rs) h) (eqb k (getD r 0 0))
   where
-    go : cell k j rs ≡ getD (column j rs) (place k (column 0 rs)) 0 → (t : Bool) →
-        getD (if t then r else row k rs) j 0 ≡ getD (getD r j 0 ∷ column j rs) (if t then 0 else suc (place k (column 0 rs))) 0
+    go : listed k (s ∷ rs) ≡ true → (t : Bool) → (t || listed k (s ∷ rs)) ≡ true
     go e true = refl
     go e false = e
 
--- what the code finds: the place of the key among the keys, and what stands there in a column
-pub found-cell : {i x : ℕ} (k j : ℕ) (rows : List (List ℕ)) → i ≡ place k (column 0 rows) → x ≡ getD (column j rows) i 0 → x ≡ cell k j rows
-found-cell k j rows p q = q ∙ ap (λ (n : ℕ). getD (column j rows) n 0) p ∙ sym (cell-column k j rows)
+pub key-unlisted : (k : ℕ) (rows : List (List ℕ)) → (OneOf (column 0 rows) k → ⊥) → listed k rows ≡ false
+key-unlisted k [] h = refl
+key-unlisted k (r ∷ []) h = simp (ne-eqb _ _ h)
+key-unlisted k (r ∷ s ∷ rs) h = simp (ne-eqb k (getD r 0 0) (λ e. h (inl e))) (key-unlisted k (s ∷ rs) (λ o. h (inr o)))
 
--- a key is listed where its place is one of the keys'
-pub listed-place : (k : ℕ) (rows : List (List ℕ)) → ltb (place k (column 0 rows)) (length (column 0 rows)) ≡ listed k rows
-listed-place k [] = refl
-listed-place k (r ∷ rs) = go (listed-place k rs) (eqb k (getD r 0 0))
+-- the row of a listed key has that key; of any other there is none
+pub listed-key : (k : ℕ) (rows : List (List ℕ)) → listed k rows ≡ true → cell k 0 rows ≡ k
+listed-key k [] e = absurd (let z : _≡_ {A = ℕ} 0 1 = cc in omega arith)
+listed-key k (r ∷ rs) e = go (listed-key k rs) (eqb k (getD r 0 0)) refl e
   where
-    go : ltb (place k (column 0 rs)) (length (column 0 rs)) ≡ listed k rs → (t : Bool) →
-        ltb (if t then 0 else suc (place k (column 0 rs))) (suc (length (column 0 rs))) ≡ (t || listed k rs)
-    go e true = lt-ltb 0 (suc (length (column 0 rs))) (omega arith)
-    go e false = leb·suc-suc (suc (place k (column 0 rs))) (length (column 0 rs)) ∙ e
+    go : (listed k rs ≡ true → cell k 0 rs ≡ k) → (t : Bool) → eqb k (getD r 0 0) ≡ t → (t || listed k rs) ≡ true → getD (if t then r else row k rs) 0 0 ≡ k
+    go h true q e = sym (eqb→eq k (getD r 0 0) (rw q tt))
+    go h false q e = h e
+
+pub unlisted-cell : (k j : ℕ) (rows : List (List ℕ)) → listed k rows ≡ false → cell k j rows ≡ 0
+unlisted-cell k j [] e = refl
+unlisted-cell k j (r ∷ rs) e = go (unlisted-cell k j rs) (eqb k (getD r 0 0)) e
+  where
+    go : (listed k rs ≡ false → cell k j rs ≡ 0) → (t : Bool) → (t || listed k rs) ≡ false → getD (if t then r else row k rs) j 0 ≡ 0
+    go h true e = absurd (let z : _≡_ {A = ℕ} 0 1 = cc in omega arith)
+    go h false e = h e
 
 -- a rule that every row of a table passes holds of the row of a listed key
 pub listed-rule : (f : List ℕ → Bool) (k : ℕ) (rows : List (List ℕ)) (i : ℕ) → T (every (λ (i : ℕ) (r : List ℕ). f r) i rows) →
@@ -92,16 +102,6 @@ cell-between j lo hi k rows t e =
     let b = leb (cell k j rows) hi in
     (leb→le lo (cell k j rows) (and-left a b u), leb→le (cell k j rows) hi (and-right a b u))
 
--- no row has a key from n on
-pub no-row : (n k j : ℕ) (rows : List (List ℕ)) → T (every (λ (i : ℕ) (x : ℕ). ltb x n) 0 (column 0 rows)) → n ≤ k → cell k j rows ≡ 0
-no-row n k j rows t h = ap (λ (r : List ℕ). getD r j 0) (none rows 0 t)
-  where
-    none : (rows : List (List ℕ)) (i : ℕ) → T (every (λ (i : ℕ) (x : ℕ). ltb x n) i (column 0 rows)) → row k rows ≡ []
-    none [] i t = refl
-    none (r ∷ rs) i t =
-        let below : getD r 0 0 < n = ltb→lt (getD r 0 0) n (and-left (ltb (getD r 0 0) n) (every (λ (i : ℕ) (x : ℕ). ltb x n) (suc i) (column 0 rs)) t) in
-        simp (ne-eqb k (getD r 0 0) (λ e. omega arith)) (none rs (suc i) (and-right (ltb (getD r 0 0) n) (every (λ (i : ℕ) (x : ℕ). ltb x n) (suc i) (column 0 rs)) t))
-
 -- ---- A table written row by row in one list.
 
 abbrev pub flat : List (List ℕ) → List ℕ
@@ -122,14 +122,13 @@ flat-at w (x ∷ xs) h (suc r) q l =
     let e : w * suc r + q ≡ length x + (w * r + q) = simp mul-suc (omega arith) in
     rw e (getD-append-add x (flat xs) (w * r + q) 0 ∙ flat-at w xs (h .1) r q l)
 
--- ---- A search by key, at what is left of the keys.
+-- ---- A list whose places have an arm each.
 
-module _ (keys : List ℕ) (k i : ℕ) where
-  pub found : i < length keys → k ≡ getD keys i 0 → place k (drop i keys) ≡ 0
-  found h e = rw (drop-cons keys i 0 h) (simp (eq-eqb _ _ e))
+-- i is none of the first n places
+abbrev pub NoneOf : ℕ → ℕ → Type 0
+NoneOf zero i = Unit {0}
+NoneOf (suc n) i = NoneOf n i × (i ≡ n → ⊥)
 
-  pub passed : i < length keys → (k ≡ getD keys i 0 → ⊥) → place k (drop i keys) ≡ suc (place k (drop (i + 1) keys))
-  passed h e = rw (add-one, drop-cons keys i 0 h) (simp (ne-eqb _ _ e))
-
-  pub ended : length keys ≤ i → place k (drop i keys) ≡ 0
-  ended h = rw (drop-of-length-le keys h)
+pub none-of : (n i : ℕ) → NoneOf n i → n ≤ i
+none-of zero i h = omega arith
+none-of (suc n) i h = omega (arith, none-of n i (h .0), h .1)

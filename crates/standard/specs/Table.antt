@@ -1,5 +1,5 @@
 -- Tables of whole numbers: a list of rows, each with its key first.
-use Prim.Native.Nat.{ℕ, suc}
+use Prim.Native.Nat.{ℕ}
 use mathlib.Core.Bool.{Bool, false, _||_}
 use mathlib.Core.List.{List, [], _∷_}
 use lib.Dec.{eqb}
@@ -19,8 +19,3 @@ cell k j rows = getD (row k rows) j 0
 abbrev pub listed : ℕ → List (List ℕ) → Bool
 listed k [] = false
 listed k (r ∷ rs) = eqb k (getD r 0 0) || listed k rs
-
--- where in a list of keys k first stands; their number where it is not listed
-abbrev pub place : ℕ → List ℕ → ℕ
-place k [] = 0
-place k (x ∷ xs) = if eqb k x then 0 else suc (place k xs)

@@ -2,9 +2,9 @@
 ghost use mathlib.Core.Path.{_≡_};
 ghost use Prim.Native.Nat.{_≤_, _<_};
 ghost use lib.ListN.{getD};
-ghost use Rattle.quantity.specs.Unit.{millimetres};
-ghost use Rattle.standard.specs.Table.{place, listed};
-ghost use Rattle.standard.specs.Bars.{areaOf};
+ghost use Rattle.quantity.specs.Unit.{millimetres, stressOf, stressOfTenths, stressOfHundredths};
+ghost use Rattle.standard.specs.Table.{listed};
+ghost use Rattle.standard.specs.Bars.{bars, areaOf};
 ghost use Rattle.standard.specs.Concrete.{concretes, concreteOf};
 ghost use Rattle.standard.specs.Steel.{steels, steelOf, linkSteels, fyvOf};
 ghost use Rattle.standard.specs.Slenderness.{point};
@@ -39,191 +39,150 @@ fn entry(list: &[u32], i: usize) -> u32
     if i < list.len() { list[i] } else { 0 }
 }
 
-// Where the key first stands, and the number of keys where it does not.
-fn place_of(keys: &[u32], key: u32) -> usize
-    ensures { λ r. ⌜ r ≡ place key (now (keys .entry)) ⌝ }
+// Whether there is a bar of this diameter.
+fn is_diameter(diameter: u32) -> bool
+    ensures { λ r. ⌜ r ≡ listed diameter bars ⌝ }
 {
-    let mut i: usize = 0;
-    while i < keys.len() {
-        if key == keys[i] {
-            return i;
-        }
-        i += 1;
+    match diameter {
+        5 | 6 | 8 | 10 | 12 | 14 | 16 | 18 | 20 | 22 | 25 | 28 | 32 | 36 | 40 | 50 => true,
+        _ => false,
     }
-    i
 }
 
-// Areas by diameter, from 0 mm to 50 mm; 0 where there is no such bar.
-const AREAS: [u32; 51] = [
-    0,
-    0,
-    0,
-    0,
-    0,
-    196,
-    283,
-    0,
-    503,
-    0,
-    785,
-    0,
-    1131,
-    0,
-    1539,
-    0,
-    2011,
-    0,
-    2545,
-    0,
-    3142,
-    0,
-    3801,
-    0,
-    0,
-    4909,
-    0,
-    0,
-    6158,
-    0,
-    0,
-    0,
-    8042,
-    0,
-    0,
-    0,
-    10179,
-    0,
-    0,
-    0,
-    12566,
-    0,
-    0,
-    0,
-    0,
-    0,
-    0,
-    0,
-    0,
-    0,
-    19635,
-];
-
-// The area of one bar, in tenths of mm².
+// The area of one bar, in tenths of mm²: 0.7854·d² rounded; 0 where there is no such bar.
 pub fn area_of(diameter: u32) -> u32
     ensures { λ r. ⌜ r ≡ areaOf diameter ⌝ }
 {
-    entry(&AREAS, diameter as usize)
+    if is_diameter(diameter) {
+        (7854 * diameter * diameter + 500) / 1000
+    } else {
+        0
+    }
 }
-
-const GRADES: [u32; 7] = [20, 25, 30, 35, 40, 45, 50];
-
-const FC: [u32; 7] = [96, 119, 143, 167, 191, 211, 231];
-
-const FT: [u32; 7] = [110, 127, 143, 157, 171, 180, 189];
-
-const FTK: [u32; 7] = [154, 178, 201, 220, 239, 251, 264];
-
-const EC: [u32; 7] = [25500, 28000, 30000, 31500, 32500, 33500, 34500];
 
 // Whether there is such a grade of concrete.
 pub fn is_grade(grade: u32) -> bool
     ensures { λ r. ⌜ r ≡ listed grade concretes ⌝ }
 {
-    place_of(&GRADES, grade) < 7
-}
-
-pub fn concrete_of(grade: u32) -> Concrete
-    ensures { λ r. ⌜ r ≡ concreteOf grade ⌝ }
-{
-    let i = place_of(&GRADES, grade);
-    Concrete {
-        fc: Stress::of_tenths(entry(&FC, i)),
-        ft: Stress::of_hundredths(entry(&FT, i)),
-        ftk: Stress::of_hundredths(entry(&FTK, i)),
-        ec: Stress::of_units(entry(&EC, i)),
+    match grade {
+        20 | 25 | 30 | 35 | 40 | 45 | 50 => true,
+        _ => false,
     }
 }
 
-const STEELS: [u32; 2] = [1, 2];
+// A concrete from its fc in tenths of N/mm², ft and ftk in hundredths, and Ec.
+fn concrete_row(fc: u32, ft: u32, ftk: u32, ec: u32) -> Concrete
+    ensures { λ r. ⌜ r ≡ record { fc = stressOfTenths fc; ft = stressOfHundredths ft; ftk = stressOfHundredths ftk; ec = stressOf ec } ⌝ }
+{
+    Concrete {
+        fc: Stress::of_tenths(fc),
+        ft: Stress::of_hundredths(ft),
+        ftk: Stress::of_hundredths(ftk),
+        ec: Stress::of_units(ec),
+    }
+}
 
-const FYK: [u32; 2] = [400, 500];
-
-const FY: [u32; 2] = [360, 435];
-
-const FYC: [u32; 2] = [360, 435];
-
-const AXIAL: [u32; 2] = [360, 400];
-
-const DEPTH: [u32; 2] = [52, 48];
+// The rows are arms: a constant array would be made anew at each use.
+pub fn concrete_of(grade: u32) -> Concrete
+    ensures { λ r. ⌜ r ≡ concreteOf grade ⌝ }
+{
+    match grade {
+        20 => concrete_row(96, 110, 154, 25500),
+        25 => concrete_row(119, 127, 178, 28000),
+        30 => concrete_row(143, 143, 201, 30000),
+        35 => concrete_row(167, 157, 220, 31500),
+        40 => concrete_row(191, 171, 239, 32500),
+        45 => concrete_row(211, 180, 251, 33500),
+        50 => concrete_row(231, 189, 264, 34500),
+        _ => concrete_row(0, 0, 0, 0),
+    }
+}
 
 // Whether there is such a steel of bars.
 pub fn is_steel(code: u32) -> bool
     ensures { λ r. ⌜ r ≡ listed code steels ⌝ }
 {
-    place_of(&STEELS, code) < 2
+    match code {
+        1 => true,
+        2 => true,
+        _ => false,
+    }
+}
+
+// A steel from its strengths in N/mm² and its depth limit.
+fn steel_row(fyk: u32, fy: u32, fyc: u32, axial: u32, depth: u32) -> Steel
+    ensures { λ r. ⌜ r ≡ record { fyk = stressOf fyk; fy = stressOf fy; fyc = stressOf fyc; axial = stressOf axial; depth = depth } ⌝ }
+{
+    Steel {
+        fyk: Stress::of_units(fyk),
+        fy: Stress::of_units(fy),
+        fyc: Stress::of_units(fyc),
+        axial: Stress::of_units(axial),
+        depth: depth,
+    }
 }
 
 pub fn steel_of(code: u32) -> Steel
     ensures { λ r. ⌜ r ≡ steelOf code ⌝ }
 {
-    let i = place_of(&STEELS, code);
-    Steel {
-        fyk: Stress::of_units(entry(&FYK, i)),
-        fy: Stress::of_units(entry(&FY, i)),
-        fyc: Stress::of_units(entry(&FYC, i)),
-        axial: Stress::of_units(entry(&AXIAL, i)),
-        depth: entry(&DEPTH, i),
+    match code {
+        1 => steel_row(400, 360, 360, 360, 52),
+        2 => steel_row(500, 435, 435, 400, 48),
+        _ => steel_row(0, 0, 0, 0, 0),
     }
 }
-
-const LINK_STEELS: [u32; 2] = [1, 2];
-
-const FYV: [u32; 2] = [270, 360];
 
 // Whether there is such a steel of links.
 pub fn is_link_steel(code: u32) -> bool
     ensures { λ r. ⌜ r ≡ listed code linkSteels ⌝ }
 {
-    place_of(&LINK_STEELS, code) < 2
+    match code {
+        1 => true,
+        2 => true,
+        _ => false,
+    }
 }
 
 // The strength of the links' steel.
 pub fn fyv_of(code: u32) -> Stress
     ensures { λ r. ⌜ r ≡ fyvOf code ⌝ }
 {
-    Stress::of_units(entry(&FYV, place_of(&LINK_STEELS, code)))
+    match code {
+        1 => Stress::of_units(270),
+        2 => Stress::of_units(360),
+        _ => Stress::of_units(0),
+    }
 }
-
-const POINTS: [u32; 22] = [
-    100,
-    98,
-    95,
-    92,
-    87,
-    81,
-    75,
-    70,
-    65,
-    60,
-    56,
-    52,
-    48,
-    44,
-    40,
-    36,
-    32,
-    29,
-    26,
-    23,
-    21,
-    19,
-];
 
 // The stability factor at the slenderness 8 + 2·i, in hundredths.
 pub fn point_at(i: u32) -> u32
     ensures { λ r. ⌜ r ≡ point i ⌝ }
 {
-    entry(&POINTS, i as usize)
+    match i {
+        0 => 100,
+        1 => 98,
+        2 => 95,
+        3 => 92,
+        4 => 87,
+        5 => 81,
+        6 => 75,
+        7 => 70,
+        8 => 65,
+        9 => 60,
+        10 => 56,
+        11 => 52,
+        12 => 48,
+        13 => 44,
+        14 => 40,
+        15 => 36,
+        16 => 32,
+        17 => 29,
+        18 => 26,
+        19 => 23,
+        20 => 21,
+        21 => 19,
+        _ => 0,
+    }
 }
 
 const MULTIPLES: [u32; 20] = [

@@ -2,6 +2,7 @@
 use mathlib.Core.Path.{sym, _∙_}
 use Rattle.built.proofs.Accepted.{accepted-built}
 use Rattle.report.proofs.Claim.{member-reported, printed-member, member-refused}
+use Rattle.report.proofs.Length.{line-fits}
 use borrow.Author.Needs.{needs}
 use Rattle.report.proofs.member_report.Statement.{statement}
 use Rattle.report.proofs.member_report.Tie as tie
@@ -19,7 +20,10 @@ check-member-requires : tie.Need-check-member-requires
 check-member-requires c κs = accepted-built _ _ _ (sym (c .before .before .built-verdict .ensures) ∙ c .enum-told .given .1)
 
 print-line-requires : tie.Need-print-line-requires
-print-line-requires c κs = search needs
+print-line-requires c κs =
+    let k = c .before in
+    let v = k .before .before .before in
+    line-fits (v .before .before .args .x) _ (sym (v .built-verdict .ensures) ∙ k .before .enum-told .given .1) (k .check-member .ensures)
 
 returns : tie.Need-returns
 returns c = member-refused _ _ _ (sym (c .before .before .before .built-verdict .ensures) ∙ c .before .q .given .1)

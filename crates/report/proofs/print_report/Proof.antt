@@ -1,41 +1,46 @@
 -- `report::print_report` meets its contract.
 use native.Mathlib.Omega.{arith}
-use Rattle.report.proofs.Claim.{printed, unprinted}
+use Rattle.report.proofs.Claim.{printed-whole}
+use Rattle.report.proofs.Length.{report-fits}
 use borrow.Author.Needs.{needs}
 use Rattle.report.proofs.print_report.Statement.{statement}
 use Rattle.report.proofs.print_report.Tie as tie
 
-slice-aggregate-put-report : tie.Need-slice-aggregate-put-report
-slice-aggregate-put-report c = search needs
+mul-if1 : tie.Need-mul-if1
+mul-if1 c = search needs
+
+add-if1 : tie.Need-add-if1
+add-if1 c = search needs
 
 put-report-requires : tie.Need-put-report-requires
 put-report-requires c κs = search needs
 
-no-room-requires : tie.Need-no-room-requires
-no-room-requires c κs = search needs
-
-put-report-requires-2 : tie.Need-put-report-requires-2
-put-report-requires-2 c κs = search needs
-
-returns : tie.Need-returns
-returns c = unprinted _ _ _ _ _ _ (c .before .before .before .put-report .ensures) (c .no-room .ensures) (c .before .if1 .taken)
+print-measured-requires : tie.Need-print-measured-requires
+print-measured-requires c κs = search needs
 
 same-length : tie.Need-same-length
 same-length c = search needs
 
-returns-2 : tie.Need-returns-2
-returns-2 c =
+returns : tie.Need-returns
+returns c =
     let e = c .before .before .before .before in
-    printed _ _ _ _ _ _ (e .before .before .put-report .ensures) (omega arith) (e .if1 .left) (c .before .before .put-report2 .ensures)
+    printed-whole _ _ _ (report-fits _ _ _ (omega arith) (e .if1 .taken)) (c .before .before .put-report .ensures)
+
+same-length-2 : tie.Need-same-length-2
+same-length-2 c = search needs
+
+returns-2 : tie.Need-returns-2
+returns-2 c = c .before .before .print-measured .ensures
 
 pub print-report-spec : {M : Type 1} → statement M
 print-report-spec =
     tie.close
     (tie.spec
-    slice-aggregate-put-report
+    mul-if1
+    add-if1
     put-report-requires
-    no-room-requires
-    put-report-requires-2
-    returns
+    print-measured-requires
     same-length
+    returns
+    same-length-2
     returns-2)

@@ -1,38 +1,40 @@
--- `standard::fyv_of` meets its contract.
-use Rattle.standard.specs.Steel.{linkSteels, fyvOf}
-use Rattle.standard.proofs.Table.{cell-column}
+-- `standard::fyv_of` meets its contract: an arm for each row, the last for no row.
+use borrow.Author.Tests.{ne-eqb}
+use Rattle.standard.specs.Steel.{fyvOf}
 use borrow.Author.Needs.{needs}
 use Rattle.standard.proofs.fyv_of.Statement.{statement}
 use Rattle.standard.proofs.fyv_of.Tie as tie
 
-slice-aggregate-entry : tie.Need-slice-aggregate-entry
-slice-aggregate-entry c = search needs
-
-slice-aggregate-place-of : tie.Need-slice-aggregate-place-of
-slice-aggregate-place-of c = search needs
-
-place-of-requires : tie.Need-place-of-requires
-place-of-requires c κs = search needs
-
-entry-requires : tie.Need-entry-requires
-entry-requires c κs = search needs
-
 of-units-requires : tie.Need-of-units-requires
 of-units-requires c κs = search needs
 
+of-units-requires-2 : tie.Need-of-units-requires-2
+of-units-requires-2 c κs = search needs
+
+of-units-requires-3 : tie.Need-of-units-requires-3
+of-units-requires-3 c κs = search needs
+
 returns : tie.Need-returns
 unfolding fyvOf
-returns c =
-    let code = c .before .before .before .before .before .args .code in
-    cc (cell-column code 1 linkSteels)
+returns c = rw (c .before .match .keys1) (c .of-units .ensures)
+
+returns-2 : tie.Need-returns-2
+unfolding fyvOf
+returns-2 c = rw (c .before .match .keys2) (c .of-units2 .ensures)
+
+returns-3 : tie.Need-returns-3
+unfolding fyvOf
+returns-3 c =
+    let r = c .before .match .rest in
+    simp (ne-eqb _ _ (r .0 .1), ne-eqb _ _ (r .1)) (c .of-units3 .ensures)
 
 pub fyv-of-spec : {M : Type 1} → statement M
 fyv-of-spec =
     tie.close
     (tie.spec
-    slice-aggregate-entry
-    slice-aggregate-place-of
-    place-of-requires
-    entry-requires
     of-units-requires
-    returns)
+    of-units-requires-2
+    of-units-requires-3
+    returns
+    returns-2
+    returns-3)
