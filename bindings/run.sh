@@ -5,8 +5,11 @@ set -eu
 here=$(cd "$(dirname "$0")" && pwd)
 root=$here/..
 work=$root/target/bindings
-(cd "$root" && rt staticlib koxaltes >/dev/null)
 mkdir -p "$work"
+(cd "$root" && rt staticlib koxaltes >"$work/library.log" 2>&1) || {
+    cat "$work/library.log"
+    exit 1
+}
 schedule=$root/crates/cage_report/stdin
 
 cc -std=c11 -Wall -Wextra -Werror -O2 -o "$work/example" "$here/c/example.c" "$root/target/staticlib/libkoxaltes.a"

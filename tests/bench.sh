@@ -1,10 +1,9 @@
 #!/bin/sh
-# Builds the static library if it is not there, and times it against the model.
+# Builds the static library, unless KOXALTES_LIB_DIR names the folder of one, and times it against the model.
 set -eu
 here=$(cd "$(dirname "$0")" && pwd)
-library=${KOXALTES_LIB_DIR:-$here/../target/staticlib}/libkoxaltes.a
-if [ ! -f "$library" ]; then
-    (cd "$here/.." && rt staticlib koxaltes)
+if [ -z "${KOXALTES_LIB_DIR:-}" ]; then
+    (cd "$here/.." && rt staticlib koxaltes >/dev/null)
 fi
 cd "$here"
 cargo build --quiet --release -j1 --bin bench

@@ -123,8 +123,8 @@ fn print_measured_line(mark: u32, o: Outcome, out: &mut [u8]) -> Answer
     ensures { λ r. ⌜ Printed 1 (lineText (lineWords mark o)) (now (out .entry)) (now (out .exit)) r ⌝ }
 {
     let mut none = [0u8; 1];
-    let n = put_line(&mut none, 0, mark, o);
-    if out.len() < n {
+    let size = put_line(&mut none, 0, mark, o);
+    if out.len() < size {
         no_room(1)
     } else {
         Answer::Written(put_line(out, 0, mark, o))
