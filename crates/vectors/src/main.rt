@@ -81,7 +81,7 @@ fn tally_of(src: &[u8]) -> Tally {
 }
 
 fn main() {
-    let mut all = [0u8; 262144];
+    let mut all = [0u8; 65536];
     let n = io::read_full(0, &mut all);
     let t = tally_of(&all[..n]);
     io::write_all(1, b"vectors ");
