@@ -1,12 +1,11 @@
 -- The figures of an accepted member have at most nine digits.
 use Prim.Native.Nat.{ℕ, _-_, _*_, _^_, _<_, _≤_, max}
 use mathlib.Core.Path.{_≡_}
-use mathlib.Core.Bool.{Bool, true, false, _||_}
+use mathlib.Core.Bool.{Bool, true, _||_}
 use native.Mathlib.Nat.{mul-le-mul, mul-le-mul-left, mul-le-mul-right}
 use native.Mathlib.Omega.{arith}
 use lib.Dec.{leb, ltb, eqb}
 use Rattle.quantity.specs.Choice.{if_then_else_}
-use Rattle.quantity.specs.Unit.{inUnits, inTenths}
 use Rattle.quantity.proofs.Choice.{if-case}
 use Rattle.quantity.proofs.Rounding.{up-le, down-le}
 use Rattle.standard.specs.declared.Concrete.{Concrete}
@@ -19,16 +18,12 @@ use Rattle.standard.specs.Slenderness.{point}
 use Rattle.standard.proofs.Materials.{usable-concrete, usable-steel}
 use Rattle.standard.proofs.Mesh.{multiple-between}
 use Rattle.standard.proofs.Slenderness.{point-falls}
-use Rattle.outcome.specs.declared.Check.{Check}
-use Rattle.outcome.specs.declared.Figure.{Figure}
-use Rattle.outcome.specs.declared.Figure.the-variants.{Reached, Unreached}
 use Rattle.outcome.specs.declared.Outcome.{Outcome}
-use Rattle.outcome.specs.Outcome.{outcome, stopped}
 use Rattle.line.proofs.Length.{Below}
 use Rattle.member.specs.Member.{Member, beam, column, mesh, Beam, Column, Mesh}
 use Rattle.member.specs.Accepted.{AcceptedMember, AcceptedBeam, AcceptedColumn, AcceptedMesh}
 use Rattle.section.specs.declared.Section.{Section}
-use Rattle.section.specs.Section.{sectionOf, b, h₀, l₀, c, G, W, S, S′, E, D, M, Mq, Vd, ftk, Ec}
+use Rattle.section.specs.Section.{sectionOf, b, h₀, l₀, c, G, W, S, S′, E, D, M, Mq, Vd, Ec}
 use Rattle.section.specs.Bounded.{Bounded}
 use Rattle.section.proofs.Bounded.{bounded}
 use Rattle.bending.specs.Steps.{leastSteel, compressionDepth, bendingCapacity}
@@ -51,9 +46,10 @@ use Rattle.beam.specs.Checks.{
   sectionOutcome,
   beamOutcome,
 }
-use Rattle.column.specs.Steps.{grossArea, steelArea, steelFits, linksFit, slendernessFits, interval, between, stability, concreteArea, squashLoad, axialCapacity, axialOutcome, slendernessOutcome, linksOutcome, columnOutcome}
+use Rattle.column.specs.Steps.{grossArea, steelArea, steelFits, linksFit, slendernessFits, concreteArea, squashLoad, axialCapacity, axialOutcome, slendernessOutcome, linksOutcome, columnOutcome}
+use Rattle.stability.specs.Steps.{interval, between, stability}
 use Rattle.column.proofs.Bounds.{gross-most, steel-most}
-use Rattle.mesh.specs.Steps.{pairedTenths, apartTenths, seismicHundredths, basicLength, anchorageLength, lapRow, lapLeast, tensionLap, requiredLap, lapLength, lapOutcome, meshOutcome}
+use Rattle.mesh.specs.Steps.{pairedTenths, apartTenths, basicLength, anchorageLength, lapRow, tensionLap, requiredLap, lapLength, lapOutcome, meshOutcome}
 use Rattle.mesh.proofs.Bounds.{plain}
 use Rattle.checks.specs.Outcome.{outcomeOf}
 

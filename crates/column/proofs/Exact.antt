@@ -3,51 +3,21 @@ use Prim.Native.Nat.{ℕ, _+_, _-_, _*_, _<_}
 use mathlib.Core.Path.{_≡_}
 use mathlib.Core.Bool.{Bool, true, false}
 use native.Mathlib.Omega.{arith}
-use lib.Dec.{leb, ltb}
+use lib.Dec.{ltb}
 use Rattle.quantity.specs.declared.Stress.{Stress}
 use Rattle.quantity.specs.Choice.{if_then_else_}
-use Rattle.quantity.specs.Fraction.{_//_, whole, _⊕_, _⊖_, _⊗_, _⊘_}
+use Rattle.quantity.specs.Fraction.{_//_, whole, _⊕_, _⊖_, _⊗_}
 use Rattle.quantity.specs.Unit.{inUnits, inTenths, exactStress}
 use Rattle.quantity.proofs.Rounding.{expand}
-use Rattle.quantity.proofs.Fraction.{level, Same, same-refl, same-trans, same-sum, same-difference, same-product}
+use Rattle.quantity.proofs.Fraction.{Same, same-refl, same-trans, same-sum, same-product}
 use Rattle.standard.specs.declared.Concrete.{Concrete}
 use Rattle.standard.specs.declared.Steel.{Steel}
 use Rattle.standard.specs.Bounds.{UsableConcrete, UsableSteel}
-use Rattle.standard.specs.Slenderness.{point}
 use Rattle.member.specs.Member.{Column}
-use Rattle.column.specs.Steps.{grossArea, steelArea, interval, between, stability, concreteArea, squashLoad}
-use Rattle.column.specs.Exact.{exactBetween, exactStability, exactSteelArea, exactConcreteArea, exactAxial}
-use Rattle.column.proofs.Stability.{interval-found}
-
--- ---- φ.
-
-offset-same : (l b k : ℕ) → 0 < b → Same ((l // b ⊖ whole k) ⊘ whole 2) ((l - k * b) // (2 * b))
-unfolding _⊖_ _⊘_
-offset-same l b k p = record { pos = omega arith; pos′ = omega arith; same = simp level (omega arith) }
-
-drop-same : (q y b : ℕ) → 0 < b → Same (q // 100 ⊗ y // (2 * b)) ((q * y) // (200 * b))
-unfolding _⊗_
-drop-same q y b p = record { pos = omega arith; pos′ = omega arith; same = simp expand (omega arith) }
-
-rest-same : (p z b : ℕ) → 0 < b → Same (p // 100 ⊖ z // (200 * b)) ((p * (2 * b) - z) // (200 * b))
-unfolding _⊖_
-rest-same p z b u = record { pos = omega arith; pos′ = omega arith; same = simp level (omega arith) }
-
-between-same : (i l b : ℕ) → 0 < b → Same (exactBetween i l b) (between i l b // (200 * b))
-unfolding exactBetween between
-between-same i l b p =
-    let q = point i - point (i + 1) in
-    let y = l - (8 + 2 * i) * b in
-    let drop = same-trans (same-product (same-refl (q // 100) (omega arith)) (offset-same l b (8 + 2 * i) p)) (drop-same q y b p) in
-    same-trans (same-difference (same-refl (point i // 100) (omega arith)) drop) (rest-same (point i) (q * y) b p)
-
-stability-same : (l b : ℕ) → 0 < b → Same (exactStability l b) (stability l b // (200 * b))
-unfolding exactStability stability
-stability-same l b p = rw (interval-found l b p) (go (leb l (8 * b)))
-  where
-    go : (t : Bool) → Same (if t then whole 1 else exactBetween (interval l b) l b) ((if t then 200 * b else between (interval l b) l b) // (200 * b))
-    go true = record { pos = omega arith; pos′ = omega arith; same = omega arith }
-    go false = between-same (interval l b) l b p
+use Rattle.column.specs.Steps.{grossArea, steelArea, concreteArea, squashLoad}
+use Rattle.stability.specs.Steps.{stability}
+use Rattle.column.specs.Exact.{exactSteelArea, exactConcreteArea, exactAxial}
+use Rattle.stability.proofs.Exact.{stability-same}
 
 -- ---- The squash load.
 

@@ -1,4 +1,3 @@
-pub mod Stability
 pub mod Bounds
 pub mod Exact
 pub mod Safe

@@ -23,7 +23,8 @@ use Rattle.outcome.specs.declared.Check.{Check}
 use Rattle.outcome.specs.declared.Check.the-variants.{Passed, MostSteel, ColumnLinks, Slenderness, AxialForce}
 use Rattle.outcome.specs.declared.Figure.the-variants.{Reached, Unreached}
 use Rattle.column.specs.Given.{Given}
-use Rattle.column.specs.Steps.{grossArea, steelArea, steelFits, linksFit, slendernessFits, stability, squashLoad, axialCapacity, axialOutcome, slendernessOutcome, linksOutcome, columnOutcome}
+use Rattle.column.specs.Steps.{grossArea, steelArea, steelFits, linksFit, slendernessFits, squashLoad, axialCapacity, axialOutcome, slendernessOutcome, linksOutcome, columnOutcome}
+use Rattle.stability.specs.Steps.{stability}
 use Rattle.column.specs.Exact.{exactAxial, LinksHold, ColumnHolds, MayName, none, most-steel, links, slenderness, axial, SafeColumnWith, SafeColumn}
 use Rattle.column.proofs.Exact.{axial-same}
 

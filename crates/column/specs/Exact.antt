@@ -1,37 +1,22 @@
 -- Demand 3 for a column: the exact axial capacity of 000, 4.2.4, the exact inequalities, and what an outcome may say.
 -- The capacity is an exact fraction of N.
-use Prim.Native.Nat.{ℕ, zero, suc, _+_, _-_, _*_, _≤_}
+use Prim.Native.Nat.{_+_, _-_, _*_, _≤_}
 use mathlib.Core.Path.{_≡_}
-use lib.Dec.{leb, ltb}
+use lib.Dec.{ltb}
 use Rattle.quantity.specs.Choice.{if_then_else_}
-use Rattle.quantity.specs.Fraction.{Frac, _//_, whole, _⊕_, _⊖_, _⊗_, _⊘_, _≼_, _≺_}
+use Rattle.quantity.specs.Fraction.{Frac, _//_, whole, _⊕_, _⊖_, _⊗_, _≼_, _≺_}
 use Rattle.quantity.specs.Unit.{exactStress}
 use Rattle.standard.specs.declared.Concrete.{Concrete}
 use Rattle.standard.specs.declared.Steel.{Steel}
 use Rattle.standard.specs.Concrete.{concreteOf}
 use Rattle.standard.specs.Steel.{steelOf}
-use Rattle.standard.specs.Slenderness.{point}
+use Rattle.stability.specs.Exact.{exactStability}
 use Rattle.member.specs.Member.{Column}
 use Rattle.bars.specs.Sums.{area, largest, smallest}
 use Rattle.outcome.specs.Safe.{empty, capacity, Safe}
 use Rattle.outcome.specs.declared.Outcome.{Outcome}
 use Rattle.outcome.specs.declared.Check.{Check}
 use Rattle.outcome.specs.declared.Check.the-variants.{Passed, MostSteel, ColumnLinks, Slenderness, AxialForce}
-
--- the first of n intervals of table 4.2.4 from i on whose end is above l0/b, and the one after them where there is none;
--- interval i goes from 8 + 2·i to 10 + 2·i
-abbrev pub intervalFrom : ℕ → ℕ → ℕ → ℕ → ℕ
-intervalFrom zero i l₀ b = i
-intervalFrom (suc n) i l₀ b = if ltb l₀ ((10 + 2 * i) * b) then i else intervalFrom n (suc i) l₀ b
-
--- φ straight between the points of interval i
-unfoldable pub exactBetween : ℕ → ℕ → ℕ → Frac
-exactBetween i l₀ b =
-    point i // 100 ⊖ (point i - point (i + 1)) // 100 ⊗ ((l₀ // b ⊖ whole (8 + 2 * i)) ⊘ whole 2)
-
--- φ: 1 up to 8, straight between the points above
-unfoldable pub exactStability : ℕ → ℕ → Frac
-exactStability l₀ b = if leb l₀ (8 * b) then whole 1 else exactBetween (intervalFrom 20 0 l₀ b) l₀ b
 
 -- area of the bars and of the concrete, mm²: without the bars' above 3 percent
 unfoldable pub exactSteelArea : Column → Frac

@@ -1,5 +1,5 @@
 -- The steps of a tied rectangular column under axial load (document 01, "Column."; 000, 5.6.1, 5.6.2 and 4.2.4).
-use Prim.Native.Nat.{ℕ, _+_, _-_, _*_, min}
+use Prim.Native.Nat.{ℕ, _+_, _-_, _*_}
 use mathlib.Core.Bool.{Bool, _&&_}
 use lib.Dec.{leb, ltb}
 use Rattle.quantity.specs.Choice.{if_then_else_}
@@ -7,7 +7,7 @@ use Rattle.quantity.specs.Rounding.{down}
 use Rattle.quantity.specs.Unit.{inUnits, inTenths}
 use Rattle.standard.specs.declared.Concrete.{Concrete}
 use Rattle.standard.specs.declared.Steel.{Steel}
-use Rattle.standard.specs.Slenderness.{point}
+use Rattle.stability.specs.Steps.{stability}
 use Rattle.member.specs.Member.{Column}
 use Rattle.bars.specs.Sums.{area, largest, smallest}
 use Rattle.outcome.specs.Outcome.{outcome, stopped}
@@ -35,18 +35,6 @@ linksFit x =
 -- 4.2.4s: l0 ≤ 50b
 unfoldable pub slendernessFits : Column → Bool
 slendernessFits x = leb (x .l₀) (50 * x .b)
-
--- 4.2.4: which interval of the table l0/b lies in: 8 to 10 is 0, 48 to 50 is 20
-unfoldable pub interval : ℕ → ℕ → ℕ
-interval l₀ b = min 20 (down (l₀ - 8 * b) (2 * b))
-
--- φ straight between the points of interval i; here and below 200·b stands for φ = 1
-unfoldable pub between : ℕ → ℕ → ℕ → ℕ
-between i l₀ b = point i * (2 * b) - (point i - point (i + 1)) * (l₀ - (8 + 2 * i) * b)
-
--- φ: 1 up to 8, straight between the points above
-unfoldable pub stability : ℕ → ℕ → ℕ
-stability l₀ b = if leb l₀ (8 * b) then 200 * b else between (interval l₀ b) l₀ b
 
 -- area of the concrete, tenths of mm²: A - S/10 if 10·S > 3·A, else A
 unfoldable pub concreteArea : ℕ → ℕ → ℕ

@@ -8,7 +8,7 @@ ghost use Rattle.member.specs.Member.{columnOf};
 ghost use Rattle.member.specs.Accepted.{AcceptedColumn};
 ghost use Rattle.outcome.specs.Outcome.{outcome, stopped};
 ghost use Rattle.column.specs.Given.{Given};
-ghost use Rattle.column.specs.Steps.{grossArea, steelArea, steelFits, linksFit, slendernessFits, interval, between, stability, concreteArea, squashLoad, axialCapacity, axialOutcome, slendernessOutcome, linksOutcome, columnOutcome};
+ghost use Rattle.column.specs.Steps.{grossArea, steelArea, steelFits, linksFit, slendernessFits, concreteArea, squashLoad, axialCapacity, axialOutcome, slendernessOutcome, linksOutcome, columnOutcome};
 use bars::largest_diameter;
 use bars::smallest_diameter;
 use bars::steel_area;
@@ -19,11 +19,10 @@ use outcome::Outcome;
 use quantity::Force;
 use quantity::both;
 use quantity::div_down;
-use quantity::smaller;
+use stability::stability_of;
 use standard::Concrete;
 use standard::Steel;
 use standard::concrete_of;
-use standard::point_at;
 use standard::steel_of;
 
 // S, in tenths of mm².
@@ -72,37 +71,6 @@ fn slenderness_fits(x: Column) -> bool
     ensures { λ r. ⌜ r ≡ slendernessFits (columnOf x) ⌝ }
 {
     x.span.in_millimetres() <= 50 * x.b.in_millimetres()
-}
-
-// The interval of table 4.2.4 that l0/b lies in.
-fn interval_of(span: u64, b: u64) -> u32
-    requires { ⌜ (0 < b) × (b ≤ 1500) × (8 * b ≤ span) ⌝ }
-    ensures { λ r. ⌜ r ≡ interval span b ⌝ }
-{
-    smaller(20, div_down(span - 8 * b, 2 * b)) as u32
-}
-
-// φ between the points of interval i, where 200·b stands for 1.
-fn between_points(i: u32, span: u64, b: u64) -> u64
-    requires { ⌜ (0 < b) × (b ≤ 1500) × (8 * b ≤ span) × (span ≤ 50 * b) × (i ≡ interval span b) ⌝ }
-    ensures { λ r. ⌜ (r ≡ between i span b) × (r ≤ 200 * b) ⌝ }
-{
-    let p = point_at(i) as u64;
-    let q = point_at(i + 1) as u64;
-    let start = (8 + 2 * (i as u64)) * b;
-    p * (2 * b) - (p - q) * (span - start)
-}
-
-// φ, where 200·b stands for 1.
-fn stability_of(span: u64, b: u64) -> u64
-    requires { ⌜ (0 < b) × (b ≤ 1500) × (span ≤ 50 * b) ⌝ }
-    ensures { λ r. ⌜ (r ≡ stability span b) × (r ≤ 200 * b) ⌝ }
-{
-    if span <= 8 * b {
-        200 * b
-    } else {
-        between_points(interval_of(span, b), span, b)
-    }
 }
 
 // The area of the concrete, in tenths of mm².

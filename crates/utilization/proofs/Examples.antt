@@ -53,7 +53,8 @@ use Rattle.beam.specs.Checks.{
   sectionOutcome,
   beamOutcome,
 }
-use Rattle.column.specs.Steps.{steelFits, linksFit, slendernessFits, interval, between, stability, concreteArea, squashLoad, axialCapacity, axialOutcome, slendernessOutcome, linksOutcome, columnOutcome}
+use Rattle.column.specs.Steps.{steelFits, linksFit, slendernessFits, concreteArea, squashLoad, axialCapacity, axialOutcome, slendernessOutcome, linksOutcome, columnOutcome}
+use Rattle.stability.specs.Steps.{interval, between, stability}
 use Rattle.mesh.specs.Steps.{basicLength, anchorageLength, tensionLap, requiredLap, lapLength, lapOutcome, meshOutcome}
 use Rattle.built.specs.declared.Built.{Built}
 use Rattle.built.specs.Slots.{beamAt, columnAt, meshAt, memberAt}

@@ -11,8 +11,8 @@ use Rattle.quantity.proofs.Choice.{if-case}
 use Rattle.quantity.proofs.Rounding.{expand, down-below, down-above, le-down}
 use Rattle.standard.specs.Slenderness.{point}
 use Rattle.standard.proofs.Slenderness.{point-falls}
-use Rattle.column.specs.Steps.{interval}
-use Rattle.column.specs.Exact.{intervalFrom}
+use Rattle.stability.specs.Steps.{interval}
+use Rattle.stability.specs.Exact.{intervalFrom}
 
 -- l0/b lies on the interval i of the table
 pub record Inside (l b i : ℕ) : Type 0 where

@@ -1,10 +1,10 @@
--- `column::between_points` meets its contract.
+-- `stability::between_points` meets its contract.
 use native.Mathlib.Omega.{arith}
-use Rattle.column.specs.Steps.{between}
-use Rattle.column.proofs.Stability.{Inside, inside, Falling, falling}
+use Rattle.stability.specs.Steps.{between}
+use Rattle.stability.proofs.Interval.{Inside, inside, Falling, falling}
 use borrow.Author.Needs.{needs}
-use Rattle.column.proofs.between_points.Statement.{statement}
-use Rattle.column.proofs.between_points.Tie as tie
+use Rattle.stability.proofs.between_points.Statement.{statement}
+use Rattle.stability.proofs.between_points.Tie as tie
 
 on : (c : tie.Start) → Inside (c .args .span) (c .args .b) (c .args .i)
 on c = let p = c .pre in inside (c .args .span) (c .args .b) (c .args .i) (p .4) (p .0) (p .2) (p .3)

@@ -1,8 +1,8 @@
--- `column::interval_of` meets its contract.
-use Rattle.column.specs.Steps.{interval}
+-- `stability::interval_of` meets its contract.
+use Rattle.stability.specs.Steps.{interval}
 use borrow.Author.Needs.{needs}
-use Rattle.column.proofs.interval_of.Statement.{statement}
-use Rattle.column.proofs.interval_of.Tie as tie
+use Rattle.stability.proofs.interval_of.Statement.{statement}
+use Rattle.stability.proofs.interval_of.Tie as tie
 
 mul-div-down : tie.Need-mul-div-down
 mul-div-down c = search needs

@@ -1,9 +1,9 @@
--- `column::stability_of` meets its contract.
+-- `stability::stability_of` meets its contract.
 use borrow.Author.Tests.{le-leb, lt-leb}
-use Rattle.column.specs.Steps.{stability}
+use Rattle.stability.specs.Steps.{stability}
 use borrow.Author.Needs.{needs}
-use Rattle.column.proofs.stability_of.Statement.{statement}
-use Rattle.column.proofs.stability_of.Tie as tie
+use Rattle.stability.proofs.stability_of.Statement.{statement}
+use Rattle.stability.proofs.stability_of.Tie as tie
 
 mul-if1 : tie.Need-mul-if1
 mul-if1 c = search needs
