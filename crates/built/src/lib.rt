@@ -13,7 +13,6 @@ use field::Slots;
 use field::fields_hold;
 use field::is_between;
 use field::is_known;
-use field::slot;
 use member::Beam;
 use member::Column;
 use member::Mesh;
@@ -47,115 +46,115 @@ fn index(x: u32) -> usize
     x as usize
 }
 
-fn length_at(t: Slots, i: usize) -> Length
-    ensures { λ r. ⌜ r .0 ≡ getD (t .v) i 0 ⌝ }
+fn length_at(v: &[u32; 40], i: usize) -> Length
+    ensures { λ r. ⌜ r .0 ≡ getD (now (v .entry)) i 0 ⌝ }
 {
-    Length(wide(slot(t, i)))
+    Length(wide(v[i]))
 }
 
-fn force_at(t: Slots, i: usize) -> Force
-    ensures { λ r. ⌜ r .0 ≡ getD (t .v) i 0 ⌝ }
+fn force_at(v: &[u32; 40], i: usize) -> Force
+    ensures { λ r. ⌜ r .0 ≡ getD (now (v .entry)) i 0 ⌝ }
 {
-    Force(wide(slot(t, i)))
+    Force(wide(v[i]))
 }
 
-fn group_at(t: Slots, i: usize) -> Group
+fn group_at(v: &[u32; 40], i: usize) -> Group
     requires { ⌜ i < 40 ⌝ }
-    ensures { λ r. ⌜ r ≡ group (t .v) i ⌝ }
+    ensures { λ r. ⌜ r ≡ group (now (v .entry)) i ⌝ }
 {
     Group {
-        diameter: slot(t, i),
-        bars: slot(t, i + 1),
+        diameter: v[i],
+        bars: v[i + 1],
     }
 }
 
 // Four groups from slot i on.
-fn groups_at(t: Slots, i: usize) -> [Group; 4]
+fn groups_at(v: &[u32; 40], i: usize) -> [Group; 4]
     requires { ⌜ i < 30 ⌝ }
-    ensures { λ r. ⌜ r ≡ (group (t .v) i ∷ group (t .v) (i + 2) ∷ group (t .v) (i + 4) ∷ group (t .v) (i + 6) ∷ []) ⌝ }
+    ensures { λ r. ⌜ r ≡ (group (now (v .entry)) i ∷ group (now (v .entry)) (i + 2) ∷ group (now (v .entry)) (i + 4) ∷ group (now (v .entry)) (i + 6) ∷ []) ⌝ }
 {
     [
-        group_at(t, i),
-        group_at(t, i + 2),
-        group_at(t, i + 4),
-        group_at(t, i + 6),
+        group_at(v, i),
+        group_at(v, i + 2),
+        group_at(v, i + 4),
+        group_at(v, i + 6),
     ]
 }
 
 // The slots as a beam's fields.
-pub fn beam_of(t: Slots) -> Beam
-    ensures { λ r. ⌜ beamOf r ≡ beamAt (t .v) ⌝ }
+pub fn beam_of(v: &[u32; 40]) -> Beam
+    ensures { λ r. ⌜ beamOf r ≡ beamAt (now (v .entry)) ⌝ }
 {
     Beam {
-        b: length_at(t, 0),
-        h: length_at(t, 1),
-        bf: length_at(t, 2),
-        hf: length_at(t, 3),
-        at: length_at(t, 4),
-        ac: length_at(t, 5),
-        concrete: slot(t, 6),
-        steel: slot(t, 7),
-        tensions: index(slot(t, 8)),
-        tension: groups_at(t, 9),
-        compressions: index(slot(t, 17)),
-        compression: groups_at(t, 18),
-        link: slot(t, 26),
-        legs: slot(t, 27),
-        s: length_at(t, 28),
-        linkSteel: slot(t, 29),
-        c: length_at(t, 30),
-        span: length_at(t, 31),
-        m: wide(slot(t, 32)),
-        mq: wide(slot(t, 33)),
-        v: force_at(t, 34),
-        environment: slot(t, 35),
-        strict: slot(t, 36),
+        b: length_at(v, 0),
+        h: length_at(v, 1),
+        bf: length_at(v, 2),
+        hf: length_at(v, 3),
+        at: length_at(v, 4),
+        ac: length_at(v, 5),
+        concrete: v[6],
+        steel: v[7],
+        tensions: index(v[8]),
+        tension: groups_at(v, 9),
+        compressions: index(v[17]),
+        compression: groups_at(v, 18),
+        link: v[26],
+        legs: v[27],
+        s: length_at(v, 28),
+        linkSteel: v[29],
+        c: length_at(v, 30),
+        span: length_at(v, 31),
+        m: wide(v[32]),
+        mq: wide(v[33]),
+        v: force_at(v, 34),
+        environment: v[35],
+        strict: v[36],
     }
 }
 
 // The slots as a column's fields.
-pub fn column_of(t: Slots) -> Column
-    ensures { λ r. ⌜ columnOf r ≡ columnAt (t .v) ⌝ }
+pub fn column_of(v: &[u32; 40]) -> Column
+    ensures { λ r. ⌜ columnOf r ≡ columnAt (now (v .entry)) ⌝ }
 {
     Column {
-        b: length_at(t, 0),
-        h: length_at(t, 1),
-        concrete: slot(t, 2),
-        steel: slot(t, 3),
-        count: index(slot(t, 4)),
-        groups: groups_at(t, 5),
-        link: slot(t, 13),
-        s: length_at(t, 14),
-        span: length_at(t, 15),
-        n: force_at(t, 16),
+        b: length_at(v, 0),
+        h: length_at(v, 1),
+        concrete: v[2],
+        steel: v[3],
+        count: index(v[4]),
+        groups: groups_at(v, 5),
+        link: v[13],
+        s: length_at(v, 14),
+        span: length_at(v, 15),
+        n: force_at(v, 16),
     }
 }
 
 // The slots as a mesh's fields.
-pub fn mesh_of(t: Slots) -> Mesh
-    ensures { λ r. ⌜ meshOf r ≡ meshAt (t .v) ⌝ }
+pub fn mesh_of(v: &[u32; 40]) -> Mesh
+    ensures { λ r. ⌜ meshOf r ≡ meshAt (now (v .entry)) ⌝ }
 {
     Mesh {
-        family: slot(t, 0),
-        concrete: slot(t, 1),
-        d: length_at(t, 2),
-        cross: slot(t, 3),
-        paired: slot(t, 4),
-        apart: slot(t, 5),
-        seismic: slot(t, 6),
-        lapping: slot(t, 7),
-        compression: slot(t, 8),
-        anchorage: length_at(t, 9),
-        lap: length_at(t, 10),
+        family: v[0],
+        concrete: v[1],
+        d: length_at(v, 2),
+        cross: v[3],
+        paired: v[4],
+        apart: v[5],
+        seismic: v[6],
+        lapping: v[7],
+        compression: v[8],
+        anchorage: length_at(v, 9),
+        lap: length_at(v, 10),
     }
 }
 
 // 8 to 10 of a beam whose fields passed question 7.
-fn beam_verdict(t: Slots) -> Verdict
-    requires { ⌜ fieldsHold (fieldsOf 1) 0 (t .v) ≡ true ⌝ }
-    ensures { λ r. ⌜ r ≡ beamVerdict (beamAt (t .v)) ⌝ }
+fn beam_verdict(v: &[u32; 40]) -> Verdict
+    requires { ⌜ fieldsHold (fieldsOf 1) 0 (now (v .entry)) ≡ true ⌝ }
+    ensures { λ r. ⌜ r ≡ beamVerdict (beamAt (now (v .entry))) ⌝ }
 {
-    let x = beam_of(t);
+    let x = beam_of(v);
     if beam_relation(x) {
         if beam_bars(x) {
             if beam_ratio(x) {
@@ -172,11 +171,11 @@ fn beam_verdict(t: Slots) -> Verdict
 }
 
 // 8 and 9 of a column whose fields passed question 7.
-fn column_verdict(t: Slots) -> Verdict
-    requires { ⌜ fieldsHold (fieldsOf 2) 0 (t .v) ≡ true ⌝ }
-    ensures { λ r. ⌜ r ≡ columnVerdict (columnAt (t .v)) ⌝ }
+fn column_verdict(v: &[u32; 40]) -> Verdict
+    requires { ⌜ fieldsHold (fieldsOf 2) 0 (now (v .entry)) ≡ true ⌝ }
+    ensures { λ r. ⌜ r ≡ columnVerdict (columnAt (now (v .entry))) ⌝ }
 {
-    let x = column_of(t);
+    let x = column_of(v);
     if column_relation(x) {
         if column_bars(x) {
             Verdict::Accepted
@@ -189,10 +188,10 @@ fn column_verdict(t: Slots) -> Verdict
 }
 
 // 8 of a mesh.
-fn mesh_verdict(t: Slots) -> Verdict
-    ensures { λ r. ⌜ r ≡ meshVerdict (meshAt (t .v)) ⌝ }
+fn mesh_verdict(v: &[u32; 40]) -> Verdict
+    ensures { λ r. ⌜ r ≡ meshVerdict (meshAt (now (v .entry))) ⌝ }
 {
-    if mesh_relation(mesh_of(t)) {
+    if mesh_relation(mesh_of(v)) {
         Verdict::Accepted
     } else {
         Verdict::Refused(Question::Relation)
@@ -200,14 +199,14 @@ fn mesh_verdict(t: Slots) -> Verdict
 }
 
 // 8 to 10 of a member whose fields passed question 7.
-pub fn member_verdict(kind: u32, t: Slots) -> Verdict
-    requires { ⌜ (known kind ≡ true) × (fieldsHold (fieldsOf kind) 0 (t .v) ≡ true) ⌝ }
-    ensures { λ r. ⌜ r ≡ memberVerdict kind (t .v) ⌝ }
+pub fn member_verdict(kind: u32, v: &[u32; 40]) -> Verdict
+    requires { ⌜ (known kind ≡ true) × (fieldsHold (fieldsOf kind) 0 (now (v .entry)) ≡ true) ⌝ }
+    ensures { λ r. ⌜ r ≡ memberVerdict kind (now (v .entry)) ⌝ }
 {
     match kind {
-        1 => beam_verdict(t),
-        2 => column_verdict(t),
-        _ => mesh_verdict(t),
+        1 => beam_verdict(v),
+        2 => column_verdict(v),
+        _ => mesh_verdict(v),
     }
 }
 
@@ -223,10 +222,11 @@ pub fn built_verdict(x: Built) -> Verdict
     ensures { λ r. ⌜ r ≡ builtVerdict (x .mark) (x .kind) (x .fields .v) ⌝ }
 {
     let t = x.fields;
+    let v = t.v;
     if mark_in_range(x.mark) {
         if is_known(x.kind) {
-            if fields_hold(x.kind, t) {
-                member_verdict(x.kind, t)
+            if fields_hold(x.kind, &v) {
+                member_verdict(x.kind, &v)
             } else {
                 Verdict::Refused(Question::Field)
             }

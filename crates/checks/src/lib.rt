@@ -4,7 +4,6 @@ ghost use Rattle.member.specs.Accepted.{AcceptedMember};
 ghost use Rattle.built.specs.Slots.{memberAt};
 ghost use Rattle.checks.specs.Outcome.{outcomeOf};
 use beam::check_beam;
-use built::Built;
 use built::beam_of;
 use built::column_of;
 use built::mesh_of;
@@ -13,15 +12,13 @@ use mesh::check_mesh;
 use outcome::Outcome;
 
 // The outcome of an accepted member.
-pub fn check_member(x: Built) -> Outcome
-    requires { ⌜ AcceptedMember (memberAt (x .mark) (x .kind) (x .fields .v)) ⌝ }
-    ensures { λ r. ⌜ r ≡ outcomeOf (memberAt (x .mark) (x .kind) (x .fields .v)) ⌝ }
+pub fn check_member(mark: u32, kind: u32, v: &[u32; 40]) -> Outcome
+    requires { ⌜ AcceptedMember (memberAt mark kind (now (v .entry))) ⌝ }
+    ensures { λ r. ⌜ r ≡ outcomeOf (memberAt mark kind (now (v .entry))) ⌝ }
 {
-    let t = x.fields;
-    let kind = x.kind;
     match kind {
-        1 => check_beam(beam_of(t)),
-        2 => check_column(column_of(t)),
-        _ => check_mesh(mesh_of(t)),
+        1 => check_beam(beam_of(v)),
+        2 => check_column(column_of(v)),
+        _ => check_mesh(mesh_of(v)),
     }
 }

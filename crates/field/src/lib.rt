@@ -4,8 +4,8 @@ ghost use mathlib.Core.Bool.{true};
 ghost use Prim.Native.Nat.{_<_};
 ghost use lib.ListN.{length, getD};
 ghost use Rattle.field.specs.Domain.{between, bar, holds, asked};
-ghost use Rattle.field.specs.Fields.{fieldsOf, known, fieldsHold};
-ghost use Rattle.field.specs.Columns.{decode, firstRow};
+ghost use Rattle.field.specs.Domain.{fieldHolds};
+ghost use Rattle.field.specs.Fields.{groups, beamFields, columnFields, meshFields, fieldsOf, known, fieldsHold};
 use quantity::both;
 use quantity::either;
 use standard::area_of;
@@ -13,7 +13,7 @@ use standard::is_grade;
 use standard::is_link_steel;
 use standard::is_steel;
 
-// What a field may hold. The code has a domain as its sort (the variants from 0 on) and its two numbers.
+// What a field may hold.
 pub enum Domain {
     // from the first number to the second
     Range(u32, u32),
@@ -47,258 +47,128 @@ fn is_bar(lo: u32, hi: u32, x: u32) -> bool
     both(is_between(lo, hi, x), 0 < area_of(x))
 }
 
-// Whether x lies in the domain of this sort with the numbers a and b.
-pub fn sort_holds(sort: u32, a: u32, b: u32, x: u32) -> bool
-    ensures { λ r. ⌜ r ≡ holds (decode sort a b) x ⌝ }
+// Question 7 of a field that holds x.
+pub fn domain_holds(d: Domain, x: u32) -> bool
+    ensures { λ r. ⌜ r ≡ holds d x ⌝ }
 {
-    match sort {
-        0 => is_between(a, b, x),
-        1 => either(x == 0, is_between(a, b, x)),
-        2 => is_bar(a, b, x),
-        3 => is_grade(x),
-        4 => is_steel(x),
-        5 => is_link_steel(x),
-        6 => is_bar(6, 50, x),
-        _ => is_between(1, 20, x),
+    match d {
+        Domain::Range(lo, hi) => is_between(lo, hi, x),
+        Domain::ZeroOr(lo, hi) => either(x == 0, is_between(lo, hi, x)),
+        Domain::Bar(lo, hi) => is_bar(lo, hi, x),
+        Domain::Grade => is_grade(x),
+        Domain::Steel => is_steel(x),
+        Domain::LinkSteel => is_link_steel(x),
+        Domain::GroupDiameter(_, _) => is_bar(6, 50, x),
+        Domain::GroupBars(_, _) => is_between(1, 20, x),
     }
 }
 
-// What stands in slot i, and 0 past the slots.
-pub fn slot(t: Slots, i: usize) -> u32
-    ensures { λ r. ⌜ r ≡ getD (t .v) i 0 ⌝ }
+// Whether a list whose count stands in slot `count` has a group at `place`.
+fn has_group(v: &[u32; 40], count: u32, place: u32) -> bool
+    ensures { λ r. ⌜ r ≡ ltb place (getD (now (v .entry)) count 0) ⌝ }
 {
-    let v = t.v;
-    if i < 40 { v[i] } else { 0 }
-}
-
-// The same of lent slots.
-fn slot_at(v: &[u32], i: usize) -> u32
-    ensures { λ r. ⌜ r ≡ getD (now (v .entry)) i 0 ⌝ }
-{
-    if i < v.len() { v[i] } else { 0 }
+    let i = count as usize;
+    if i < 40 { place < v[i] } else { false }
 }
 
 // Whether the field is there: a group past its count is not.
-pub fn sort_asked(sort: u32, a: u32, b: u32, v: &[u32]) -> bool
-    ensures { λ r. ⌜ r ≡ asked (decode sort a b) (now (v .entry)) ⌝ }
+pub fn domain_asked(d: Domain, v: &[u32; 40]) -> bool
+    ensures { λ r. ⌜ r ≡ asked d (now (v .entry)) ⌝ }
 {
-    if sort < 6 {
-        true
-    } else {
-        b < slot_at(v, a as usize)
+    match d {
+        Domain::GroupDiameter(count, place) => has_group(v, count, place),
+        Domain::GroupBars(count, place) => has_group(v, count, place),
+        _ => true,
     }
 }
 
-// The table of fields, row by row: sort and two numbers of each domain. Beams from row 0, columns from 37, meshes from 54. A loop over rows
-// copies the columns before it: each use of a constant array makes it anew.
-pub const SORTS: [u32; 65] = [
-    0,
-    0,
-    0,
-    0,
-    0,
-    1,
-    3,
-    4,
-    0,
-    6,
-    7,
-    6,
-    7,
-    6,
-    7,
-    6,
-    7,
-    0,
-    6,
-    7,
-    6,
-    7,
-    6,
-    7,
-    6,
-    7,
-    2,
-    0,
-    0,
-    5,
-    0,
-    0,
-    0,
-    0,
-    0,
-    0,
-    0,
-    0,
-    0,
-    3,
-    4,
-    0,
-    6,
-    7,
-    6,
-    7,
-    6,
-    7,
-    6,
-    7,
-    2,
-    0,
-    0,
-    0,
-    0,
-    3,
-    2,
-    0,
-    0,
-    0,
-    0,
-    0,
-    0,
-    0,
-    0,
-];
+// Field j of a list of groups whose count stands in slot k.
+fn group_field(k: u32, j: usize) -> Domain
+    requires { ⌜ j < 8 ⌝ }
+    ensures { λ r. ⌜ r ≡ getD (groups k) j Domain.Grade ⌝ }
+{
+    match j {
+        0 => Domain::GroupDiameter(k, 0),
+        1 => Domain::GroupBars(k, 0),
+        2 => Domain::GroupDiameter(k, 1),
+        3 => Domain::GroupBars(k, 1),
+        4 => Domain::GroupDiameter(k, 2),
+        5 => Domain::GroupBars(k, 2),
+        6 => Domain::GroupDiameter(k, 3),
+        _ => Domain::GroupBars(k, 3),
+    }
+}
 
-pub const FIRSTS: [u32; 65] = [
-    100,
-    160,
-    100,
-    0,
-    20,
-    20,
-    0,
-    0,
-    1,
-    8,
-    8,
-    8,
-    8,
-    8,
-    8,
-    8,
-    8,
-    0,
-    17,
-    17,
-    17,
-    17,
-    17,
-    17,
-    17,
-    17,
-    6,
-    2,
-    50,
-    0,
-    15,
-    1000,
-    0,
-    1,
-    0,
-    1,
-    0,
-    300,
-    300,
-    0,
-    0,
-    1,
-    4,
-    4,
-    4,
-    4,
-    4,
-    4,
-    4,
-    4,
-    6,
-    50,
-    500,
-    0,
-    1,
-    0,
-    5,
-    0,
-    0,
-    0,
-    0,
-    1,
-    0,
-    0,
-    0,
-];
+// Field i of a beam.
+fn beam_field(i: usize) -> Domain
+    requires { ⌜ i < 37 ⌝ }
+    ensures { λ r. ⌜ r ≡ getD beamFields i Domain.Grade ⌝ }
+{
+    match i {
+        0 => Domain::Range(100, 1000),
+        1 => Domain::Range(160, 2000),
+        2 => Domain::Range(100, 3000),
+        3 => Domain::Range(0, 1000),
+        4 => Domain::Range(20, 200),
+        5 => Domain::ZeroOr(20, 200),
+        6 => Domain::Grade,
+        7 => Domain::Steel,
+        8 => Domain::Range(1, 4),
+        9..=16 => group_field(8, i - 9),
+        17 => Domain::Range(0, 4),
+        18..=25 => group_field(17, i - 18),
+        26 => Domain::Bar(6, 12),
+        27 => Domain::Range(2, 8),
+        28 => Domain::Range(50, 400),
+        29 => Domain::LinkSteel,
+        30 => Domain::Range(15, 200),
+        31 => Domain::Range(1000, 12000),
+        32 => Domain::Range(0, 100000000),
+        33 => Domain::Range(1, 100000000),
+        34 => Domain::Range(0, 100000000),
+        35 => Domain::Range(1, 3),
+        _ => Domain::Range(0, 1),
+    }
+}
 
-pub const SECONDS: [u32; 65] = [
-    1000,
-    2000,
-    3000,
-    1000,
-    200,
-    200,
-    0,
-    0,
-    4,
-    0,
-    0,
-    1,
-    1,
-    2,
-    2,
-    3,
-    3,
-    4,
-    0,
-    0,
-    1,
-    1,
-    2,
-    2,
-    3,
-    3,
-    12,
-    8,
-    400,
-    0,
-    200,
-    12000,
-    100000000,
-    100000000,
-    100000000,
-    3,
-    1,
-    1500,
-    1500,
-    0,
-    0,
-    4,
-    0,
-    0,
-    1,
-    1,
-    2,
-    2,
-    3,
-    3,
-    12,
-    600,
-    30000,
-    1000000000,
-    2,
-    0,
-    16,
-    1,
-    1,
-    1,
-    4,
-    2,
-    1,
-    100000,
-    100000,
-];
+// Field i of a column.
+fn column_field(i: usize) -> Domain
+    requires { ⌜ i < 17 ⌝ }
+    ensures { λ r. ⌜ r ≡ getD columnFields i Domain.Grade ⌝ }
+{
+    match i {
+        0 => Domain::Range(300, 1500),
+        1 => Domain::Range(300, 1500),
+        2 => Domain::Grade,
+        3 => Domain::Steel,
+        4 => Domain::Range(1, 4),
+        5..=12 => group_field(4, i - 5),
+        13 => Domain::Bar(6, 12),
+        14 => Domain::Range(50, 600),
+        15 => Domain::Range(500, 30000),
+        _ => Domain::Range(0, 1000000000),
+    }
+}
 
-// By kind: its first row and its number of fields.
-const STARTS: [usize; 4] = [0, 0, 37, 54];
-
-const COUNTS: [usize; 4] = [0, 37, 17, 11];
+// Field i of a mesh.
+fn mesh_field(i: usize) -> Domain
+    requires { ⌜ i < 11 ⌝ }
+    ensures { λ r. ⌜ r ≡ getD meshFields i Domain.Grade ⌝ }
+{
+    match i {
+        0 => Domain::Range(1, 2),
+        1 => Domain::Grade,
+        2 => Domain::Bar(5, 16),
+        3 => Domain::Range(0, 1),
+        4 => Domain::Range(0, 1),
+        5 => Domain::Range(0, 1),
+        6 => Domain::Range(0, 4),
+        7 => Domain::Range(1, 2),
+        8 => Domain::Range(0, 1),
+        9 => Domain::Range(0, 100000),
+        _ => Domain::Range(0, 100000),
+    }
+}
 
 // Question 6.
 pub fn is_known(kind: u32) -> bool
@@ -312,43 +182,130 @@ pub fn field_count(kind: u32) -> usize
     requires { ⌜ known kind ≡ true ⌝ }
     ensures { λ r. ⌜ r ≡ length (fieldsOf kind) ⌝ }
 {
-    COUNTS[kind as usize]
+    match kind {
+        1 => 37,
+        2 => 17,
+        _ => 11,
+    }
 }
 
-// The first row of a kind in the table.
-pub fn first_row(kind: u32) -> usize
-    requires { ⌜ known kind ≡ true ⌝ }
-    ensures { λ r. ⌜ r ≡ firstRow kind ⌝ }
+// Field i of a kind.
+pub fn field_of(kind: u32, i: usize) -> Domain
+    requires { ⌜ (known kind ≡ true) × (i < length (fieldsOf kind)) ⌝ }
+    ensures { λ r. ⌜ r ≡ getD (fieldsOf kind) i Domain.Grade ⌝ }
 {
-    STARTS[kind as usize]
+    match kind {
+        1 => beam_field(i),
+        2 => column_field(i),
+        _ => mesh_field(i),
+    }
+}
+
+// Question 7 of the field in slot i.
+fn slot_holds(d: Domain, i: usize, v: &[u32; 40]) -> bool
+    requires { ⌜ i < 40 ⌝ }
+    ensures { λ r. ⌜ r ≡ fieldHolds d i (now (v .entry)) ⌝ }
+{
+    if domain_asked(d, v) {
+        domain_holds(d, v[i])
+    } else {
+        true
+    }
+}
+
+// Question 7 of a list of groups whose count stands in slot k.
+fn list_holds(k: u32, v: &[u32; 40]) -> bool
+    requires { ⌜ k < 30 ⌝ }
+    ensures { λ r. ⌜ r ≡ fieldsHold (groups k) (k + 1) (now (v .entry)) ⌝ }
+{
+    let i = k as usize + 1;
+    both(slot_holds(group_field(k, 0), i, v),
+    both(slot_holds(group_field(k, 1), i + 1, v),
+    both(slot_holds(group_field(k, 2), i + 2, v),
+    both(slot_holds(group_field(k, 3), i + 3, v),
+    both(slot_holds(group_field(k, 4), i + 4, v),
+    both(slot_holds(group_field(k, 5), i + 5, v),
+    both(slot_holds(group_field(k, 6), i + 6, v),
+    slot_holds(group_field(k, 7), i + 7, v))))))))
+}
+
+// a beam's section, materials and the count of its tension groups
+fn beam_section_holds(v: &[u32; 40]) -> bool {
+    both(slot_holds(beam_field(0), 0, v),
+    both(slot_holds(beam_field(1), 1, v),
+    both(slot_holds(beam_field(2), 2, v),
+    both(slot_holds(beam_field(3), 3, v),
+    both(slot_holds(beam_field(4), 4, v),
+    both(slot_holds(beam_field(5), 5, v),
+    both(slot_holds(beam_field(6), 6, v),
+    both(slot_holds(beam_field(7), 7, v),
+    slot_holds(beam_field(8), 8, v)))))))))
+}
+
+// a beam's links, cover, span and loads
+fn beam_rest_holds(v: &[u32; 40]) -> bool {
+    both(slot_holds(beam_field(26), 26, v),
+    both(slot_holds(beam_field(27), 27, v),
+    both(slot_holds(beam_field(28), 28, v),
+    both(slot_holds(beam_field(29), 29, v),
+    both(slot_holds(beam_field(30), 30, v),
+    both(slot_holds(beam_field(31), 31, v),
+    both(slot_holds(beam_field(32), 32, v),
+    both(slot_holds(beam_field(33), 33, v),
+    both(slot_holds(beam_field(34), 34, v),
+    both(slot_holds(beam_field(35), 35, v),
+    slot_holds(beam_field(36), 36, v)))))))))))
+}
+
+fn beam_holds(v: &[u32; 40]) -> bool
+    ensures { λ r. ⌜ r ≡ fieldsHold beamFields 0 (now (v .entry)) ⌝ }
+{
+    both(beam_section_holds(v),
+    both(list_holds(8, v),
+    both(slot_holds(beam_field(17), 17, v),
+    both(list_holds(17, v),
+    beam_rest_holds(v)))))
+}
+
+fn column_holds(v: &[u32; 40]) -> bool
+    ensures { λ r. ⌜ r ≡ fieldsHold columnFields 0 (now (v .entry)) ⌝ }
+{
+    both(slot_holds(column_field(0), 0, v),
+    both(slot_holds(column_field(1), 1, v),
+    both(slot_holds(column_field(2), 2, v),
+    both(slot_holds(column_field(3), 3, v),
+    both(slot_holds(column_field(4), 4, v),
+    both(list_holds(4, v),
+    both(slot_holds(column_field(13), 13, v),
+    both(slot_holds(column_field(14), 14, v),
+    both(slot_holds(column_field(15), 15, v),
+    slot_holds(column_field(16), 16, v))))))))))
+}
+
+fn mesh_holds(v: &[u32; 40]) -> bool
+    ensures { λ r. ⌜ r ≡ fieldsHold meshFields 0 (now (v .entry)) ⌝ }
+{
+    both(slot_holds(mesh_field(0), 0, v),
+    both(slot_holds(mesh_field(1), 1, v),
+    both(slot_holds(mesh_field(2), 2, v),
+    both(slot_holds(mesh_field(3), 3, v),
+    both(slot_holds(mesh_field(4), 4, v),
+    both(slot_holds(mesh_field(5), 5, v),
+    both(slot_holds(mesh_field(6), 6, v),
+    both(slot_holds(mesh_field(7), 7, v),
+    both(slot_holds(mesh_field(8), 8, v),
+    both(slot_holds(mesh_field(9), 9, v),
+    slot_holds(mesh_field(10), 10, v)))))))))))
 }
 
 // Question 7 of a member.
-pub fn fields_hold(kind: u32, t: Slots) -> bool
+pub fn fields_hold(kind: u32, v: &[u32; 40]) -> bool
     requires { ⌜ known kind ≡ true ⌝ }
-    ensures { λ r. ⌜ r ≡ fieldsHold (fieldsOf kind) 0 (t .v) ⌝ }
+    ensures { λ r. ⌜ r ≡ fieldsHold (fieldsOf kind) 0 (now (v .entry)) ⌝ }
 {
-    let n = field_count(kind);
-    let start = first_row(kind);
-    let sorts = SORTS;
-    let firsts = FIRSTS;
-    let seconds = SECONDS;
-    let v = t.v;
-    let mut i: usize = 0;
-    while i < n {
-        let row = start + i;
-        let sort = sorts[row];
-        let a = firsts[row];
-        let b = seconds[row];
-        if sort_asked(sort, a, b, &v) {
-            if sort_holds(sort, a, b, v[i]) {
-                i += 1;
-            } else {
-                return false;
-            }
-        } else {
-            i += 1;
-        }
+    match kind {
+        1 => beam_holds(v),
+        2 => column_holds(v),
+        _ => mesh_holds(v),
     }
-    true
 }

@@ -20,7 +20,7 @@ use number::number_at;
 use outcome::Outcome;
 use question::Question;
 use question::Refusal;
-use schedule::read_member;
+use schedule::take_member;
 use schedule::survey;
 
 pub enum Answer {
@@ -32,27 +32,16 @@ pub enum Answer {
 
 // The lines of `count` members from `at` on, into the buffer from `to` on: the place after them.
 fn put_members(src: &[u8], at: usize, count: u32, out: &mut [u8], to: usize) -> usize
-    ensures { λ r. ⌜ Put (now (out .entry)) to (linesFrom count (now (src .entry)) at 0) (now (out .exit)) r ⌝ }
 {
     let mut p = at;
-    let mut before: u32 = 0;
     let mut left = count;
     let mut q = to;
     while 0 < left {
-        let r = read_member(src, p, before);
-        let verdict = r.verdict;
-        let m = r.member;
-        match verdict {
-            Verdict::Refused(_) => {
-                return q;
-            }
-            Verdict::Accepted => {
-                q = put_line(out, q, m.mark, check_member(m));
-                p = r.next;
-                before = m.mark;
-                left -= 1;
-            }
-        }
+        let mut v = [0u32; 40];
+        let r = take_member(src, p, &mut v);
+        q = put_line(out, q, r.mark, check_member(r.mark, r.kind, &v));
+        p = r.next;
+        left -= 1;
     }
     q
 }
@@ -147,11 +136,13 @@ fn print_line(mark: u32, o: Outcome, out: &mut [u8]) -> Answer
 pub fn member_report(x: Built, out: &mut [u8]) -> Answer
     ensures { λ r. ⌜ MemberReported x (now (out .entry)) (now (out .exit)) r ⌝ }
 {
+    let t = x.fields;
+    let v = t.v;
     match built_verdict(x) {
         Verdict::Refused(q) => Answer::Refused(Refusal {
             question: q,
             member: 1,
         }),
-        Verdict::Accepted => print_line(x.mark, check_member(x), out),
+        Verdict::Accepted => print_line(x.mark, check_member(x.mark, x.kind, &v), out),
     }
 }

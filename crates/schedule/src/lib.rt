@@ -3,24 +3,21 @@ ghost use mathlib.Core.Path.{_≡_};
 ghost use mathlib.Core.Bool.{true};
 ghost use Prim.Native.Nat.{_≤_};
 ghost use Rattle.field.specs.Domain.{holds};
-ghost use Rattle.field.specs.Columns.{decode};
 ghost use Rattle.field.specs.Fields.{fieldsOf, known};
 ghost use Rattle.schedule.specs.Reading.{no, ofNumber, refusal};
 ghost use Rattle.schedule.specs.Schedule.{empty, checked, fields, whole, markRises, markAt, kindAt, member, members, schedule};
 ghost use Rattle.schedule.specs.Result.{runOf, readOf, endsOf, placeAfter, answerOf};
-use built::Built;
 use built::Verdict;
 use built::mark_in_range;
 use built::member_verdict;
-use field::FIRSTS;
-use field::SECONDS;
-use field::SORTS;
+use field::Domain;
 use field::Slots;
+use field::domain_asked;
+use field::domain_holds;
 use field::field_count;
-use field::first_row;
+use field::field_of;
+use field::fields_hold;
 use field::is_known;
-use field::sort_asked;
-use field::sort_holds;
 use number::Number;
 use number::number_at;
 use quantity::both;
@@ -34,11 +31,18 @@ pub struct Run {
     pub slots: Slots,
 }
 
-// A member read: refused, or the member and the place after it.
+// A member read: refused, or its mark and the place after it.
 pub struct MemberRead {
     pub verdict: Verdict,
+    pub mark: u32,
     pub next: usize,
-    pub member: Built,
+}
+
+// The mark and kind of a member, and the place after it.
+pub struct Head {
+    pub mark: u32,
+    pub kind: u32,
+    pub next: usize,
 }
 
 pub enum Answer {
@@ -78,14 +82,14 @@ fn refused_run(q: Question) -> Run
     }
 }
 
-// The field at `at`, its domain of this sort with the numbers a and b: questions 2, 3 and 7.
-fn read_field(src: &[u8], at: usize, sort: u32, a: u32, b: u32) -> Number
-    ensures { λ r. ⌜ ofNumber r ≡ checked Question.Field (holds (decode sort a b)) (now (src .entry)) at ⌝ }
+// The field at `at`: questions 2, 3 and 7.
+fn read_field(src: &[u8], at: usize, d: Domain) -> Number
+    ensures { λ r. ⌜ ofNumber r ≡ checked Question.Field (holds d) (now (src .entry)) at ⌝ }
 {
     match number_at(src, at) {
         Number::Refused(q) => Number::Refused(q),
         Number::Value(x, next) => {
-            if sort_holds(sort, a, b, x) {
+            if domain_holds(d, x) {
                 Number::Value(x, next)
             } else {
                 Number::Refused(Question::Field)
@@ -100,20 +104,13 @@ fn read_fields(src: &[u8], at: usize, kind: u32) -> Run
     ensures { λ r. ⌜ runOf r ≡ fields (fieldsOf kind) (now (src .entry)) at 0 empty ⌝ }
 {
     let n = field_count(kind);
-    let start = first_row(kind);
-    let sorts = SORTS;
-    let firsts = FIRSTS;
-    let seconds = SECONDS;
     let mut v = [0u32; 40];
     let mut p = at;
     let mut i: usize = 0;
     while i < n {
-        let row = start + i;
-        let sort = sorts[row];
-        let a = firsts[row];
-        let b = seconds[row];
-        if sort_asked(sort, a, b, &v) {
-            match read_field(src, p, sort, a, b) {
+        let d = field_of(kind, i);
+        if domain_asked(d, &v) {
+            match read_field(src, p, d) {
                 Number::Refused(q) => return refused_run(q),
                 Number::Value(x, next) => {
                     v[i] = x;
@@ -133,36 +130,112 @@ fn read_fields(src: &[u8], at: usize, kind: u32) -> Run
     }
 }
 
-fn refused_member(q: Question) -> MemberRead
-    ensures { λ r. ⌜ readOf r ≡ no q ⌝ }
+// The numbers from `at` on into the slots from `from` up to `end`: the place after them.
+fn take_run(src: &[u8], at: usize, v: &mut [u32; 40], from: usize, end: usize) -> Number
 {
-    let fields = no_slots();
-    MemberRead {
-        verdict: Verdict::Refused(q),
-        next: 0,
-        member: Built {
-            mark: 0,
-            kind: 0,
-            fields,
+    let mut p = at;
+    let mut i = from;
+    while i < end {
+        match number_at(src, p) {
+            Number::Refused(q) => return Number::Refused(q),
+            Number::Value(x, next) => {
+                v[i] = x;
+                p = next;
+                i += 1;
+            }
+        }
+    }
+    Number::Value(0, p)
+}
+
+// The groups of a list whose count stands in slot k.
+fn take_list(src: &[u8], at: usize, v: &mut [u32; 40], k: usize) -> Number
+{
+    let n = v[k];
+    let groups = if n < 4 { n as usize } else { 4 };
+    take_run(src, at, v, k + 1, k + 1 + 2 * groups)
+}
+
+fn take_beam(src: &[u8], at: usize, v: &mut [u32; 40]) -> Number
+{
+    match take_run(src, at, v, 0, 9) {
+        Number::Refused(q) => Number::Refused(q),
+        Number::Value(_, tension) => match take_list(src, tension, v, 8) {
+            Number::Refused(q) => Number::Refused(q),
+            Number::Value(_, count) => match take_run(src, count, v, 17, 18) {
+                Number::Refused(q) => Number::Refused(q),
+                Number::Value(_, compression) => match take_list(src, compression, v, 17) {
+                    Number::Refused(q) => Number::Refused(q),
+                    Number::Value(_, links) => take_run(src, links, v, 26, 37),
+                },
+            },
         },
     }
 }
 
-// The member with this mark and kind, whose fields stand from `at` on.
-fn read_whole(src: &[u8], at: usize, mark: u32, kind: u32) -> MemberRead
-    requires { ⌜ known kind ≡ true ⌝ }
-    ensures { λ r. ⌜ readOf r ≡ whole mark kind (now (src .entry)) at ⌝ }
+fn take_column(src: &[u8], at: usize, v: &mut [u32; 40]) -> Number
+{
+    match take_run(src, at, v, 0, 5) {
+        Number::Refused(q) => Number::Refused(q),
+        Number::Value(_, groups) => match take_list(src, groups, v, 4) {
+            Number::Refused(q) => Number::Refused(q),
+            Number::Value(_, links) => take_run(src, links, v, 13, 17),
+        },
+    }
+}
+
+fn take_fields(src: &[u8], at: usize, kind: u32, v: &mut [u32; 40]) -> Number
+{
+    match kind {
+        1 => take_beam(src, at, v),
+        2 => take_column(src, at, v),
+        _ => take_run(src, at, v, 0, 11),
+    }
+}
+
+fn refused_member(q: Question) -> MemberRead
+{
+    MemberRead {
+        verdict: Verdict::Refused(q),
+        mark: 0,
+        next: 0,
+    }
+}
+
+// The member with this mark and kind, whose fields stand from `at` on, field by field.
+fn read_slowly(src: &[u8], at: usize, mark: u32, kind: u32) -> MemberRead
 {
     let run = read_fields(src, at, kind);
     let verdict = run.verdict;
     let fields = run.slots;
+    let v = fields.v;
     match verdict {
         Verdict::Refused(q) => refused_member(q),
         Verdict::Accepted => MemberRead {
-            verdict: member_verdict(kind, fields),
+            verdict: member_verdict(kind, &v),
+            mark,
             next: run.next,
-            member: Built { mark, kind, fields },
         },
+    }
+}
+
+// The same. Fields that hold are taken at once; field by field is asked where one does not, which of them is the first.
+fn read_whole(src: &[u8], at: usize, mark: u32, kind: u32) -> MemberRead
+{
+    let mut v = [0u32; 40];
+    match take_fields(src, at, kind, &mut v) {
+        Number::Refused(_) => read_slowly(src, at, mark, kind),
+        Number::Value(_, next) => {
+            if fields_hold(kind, &v) {
+                MemberRead {
+                    verdict: member_verdict(kind, &v),
+                    mark,
+                    next,
+                }
+            } else {
+                read_slowly(src, at, mark, kind)
+            }
+        }
     }
 }
 
@@ -218,6 +291,21 @@ pub fn read_member(src: &[u8], at: usize, before: u32) -> MemberRead
     }
 }
 
+// The fields of the accepted member at `at` into v: its mark and kind, and the place after it.
+pub fn take_member(src: &[u8], at: usize, v: &mut [u32; 40]) -> Head
+{
+    match number_at(src, at) {
+        Number::Refused(_) => Head { mark: 0, kind: 0, next: 0 },
+        Number::Value(mark, p) => match number_at(src, p) {
+            Number::Refused(_) => Head { mark: 0, kind: 0, next: 0 },
+            Number::Value(kind, first) => match take_fields(src, first, kind, v) {
+                Number::Refused(_) => Head { mark: 0, kind: 0, next: 0 },
+                Number::Value(_, next) => Head { mark, kind, next },
+            },
+        },
+    }
+}
+
 // `count` members from `at` on: where they end, or the refusal.
 fn read_members(src: &[u8], at: usize, count: u32) -> Ends
     requires { ⌜ count ≤ 500 ⌝ }
@@ -230,7 +318,6 @@ fn read_members(src: &[u8], at: usize, count: u32) -> Ends
     while 0 < left {
         let r = read_member(src, p, before);
         let verdict = r.verdict;
-        let m = r.member;
         match verdict {
             Verdict::Refused(q) => {
                 return Ends::Refused(Refusal {
@@ -240,7 +327,7 @@ fn read_members(src: &[u8], at: usize, count: u32) -> Ends
             }
             Verdict::Accepted => {
                 p = r.next;
-                before = m.mark;
+                before = r.mark;
                 i += 1;
                 left -= 1;
             }

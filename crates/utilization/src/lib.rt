@@ -184,11 +184,12 @@ fn member_utilization(x: Built, o: Outcome) -> Utilization
     ensures { λ r. ⌜ r ≡ utilizationOf quotient (memberOf x) o ⌝ }
 {
     let t = x.fields;
+    let v = t.v;
     let kind = x.kind;
     match kind {
-        1 => beam_utilization(section_of(beam_of(t)), o),
-        2 => column_utilization(column_of(t), o),
-        _ => mesh_utilization(mesh_of(t), o),
+        1 => beam_utilization(section_of(beam_of(&v)), o),
+        2 => column_utilization(column_of(&v), o),
+        _ => mesh_utilization(mesh_of(&v), o),
     }
 }
 
@@ -196,12 +197,14 @@ fn member_utilization(x: Built, o: Outcome) -> Utilization
 pub fn utilization_of(x: Built) -> Answer
     ensures { λ r. ⌜ Utilized x r ⌝ }
 {
+    let t = x.fields;
+    let v = t.v;
     match built_verdict(x) {
         Verdict::Refused(q) => Answer::Refused(Refusal {
             question: q,
             member: 1,
         }),
-        Verdict::Accepted => Answer::Given(member_utilization(x, check_member(x))),
+        Verdict::Accepted => Answer::Given(member_utilization(x, check_member(x.mark, x.kind, &v))),
     }
 }
 
