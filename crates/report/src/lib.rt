@@ -20,8 +20,8 @@ use number::number_at;
 use outcome::Outcome;
 use question::Question;
 use question::Refusal;
-use schedule::take_member;
 use schedule::survey;
+use schedule::take_member;
 
 pub enum Answer {
     // the text stands in the buffer's first bytes: how many
@@ -31,8 +31,7 @@ pub enum Answer {
 }
 
 // The lines of `count` members from `at` on, into the buffer from `to` on: the place after them.
-fn put_members(src: &[u8], at: usize, count: u32, out: &mut [u8], to: usize) -> usize
-{
+fn put_members(src: &[u8], at: usize, count: u32, out: &mut [u8], to: usize) -> usize {
     let mut p = at;
     let mut left = count;
     let mut q = to;

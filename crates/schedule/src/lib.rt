@@ -131,8 +131,7 @@ fn read_fields(src: &[u8], at: usize, kind: u32) -> Run
 }
 
 // The numbers from `at` on into the slots from `from` up to `end`: the place after them.
-fn take_run(src: &[u8], at: usize, v: &mut [u32; 40], from: usize, end: usize) -> Number
-{
+fn take_run(src: &[u8], at: usize, v: &mut [u32; 40], from: usize, end: usize) -> Number {
     let mut p = at;
     let mut i = from;
     while i < end {
@@ -149,15 +148,13 @@ fn take_run(src: &[u8], at: usize, v: &mut [u32; 40], from: usize, end: usize) -
 }
 
 // The groups of a list whose count stands in slot k.
-fn take_list(src: &[u8], at: usize, v: &mut [u32; 40], k: usize) -> Number
-{
+fn take_list(src: &[u8], at: usize, v: &mut [u32; 40], k: usize) -> Number {
     let n = v[k];
     let groups = if n < 4 { n as usize } else { 4 };
     take_run(src, at, v, k + 1, k + 1 + 2 * groups)
 }
 
-fn take_beam(src: &[u8], at: usize, v: &mut [u32; 40]) -> Number
-{
+fn take_beam(src: &[u8], at: usize, v: &mut [u32; 40]) -> Number {
     match take_run(src, at, v, 0, 9) {
         Number::Refused(q) => Number::Refused(q),
         Number::Value(_, tension) => match take_list(src, tension, v, 8) {
@@ -173,8 +170,7 @@ fn take_beam(src: &[u8], at: usize, v: &mut [u32; 40]) -> Number
     }
 }
 
-fn take_column(src: &[u8], at: usize, v: &mut [u32; 40]) -> Number
-{
+fn take_column(src: &[u8], at: usize, v: &mut [u32; 40]) -> Number {
     match take_run(src, at, v, 0, 5) {
         Number::Refused(q) => Number::Refused(q),
         Number::Value(_, groups) => match take_list(src, groups, v, 4) {
@@ -184,8 +180,7 @@ fn take_column(src: &[u8], at: usize, v: &mut [u32; 40]) -> Number
     }
 }
 
-fn take_fields(src: &[u8], at: usize, kind: u32, v: &mut [u32; 40]) -> Number
-{
+fn take_fields(src: &[u8], at: usize, kind: u32, v: &mut [u32; 40]) -> Number {
     match kind {
         1 => take_beam(src, at, v),
         2 => take_column(src, at, v),
@@ -193,8 +188,7 @@ fn take_fields(src: &[u8], at: usize, kind: u32, v: &mut [u32; 40]) -> Number
     }
 }
 
-fn refused_member(q: Question) -> MemberRead
-{
+fn refused_member(q: Question) -> MemberRead {
     MemberRead {
         verdict: Verdict::Refused(q),
         mark: 0,
@@ -203,8 +197,7 @@ fn refused_member(q: Question) -> MemberRead
 }
 
 // The member with this mark and kind, whose fields stand from `at` on, field by field.
-fn read_slowly(src: &[u8], at: usize, mark: u32, kind: u32) -> MemberRead
-{
+fn read_slowly(src: &[u8], at: usize, mark: u32, kind: u32) -> MemberRead {
     let run = read_fields(src, at, kind);
     let verdict = run.verdict;
     let fields = run.slots;
@@ -220,8 +213,7 @@ fn read_slowly(src: &[u8], at: usize, mark: u32, kind: u32) -> MemberRead
 }
 
 // The same. Fields that hold are taken at once; field by field is asked where one does not, which of them is the first.
-fn read_whole(src: &[u8], at: usize, mark: u32, kind: u32) -> MemberRead
-{
+fn read_whole(src: &[u8], at: usize, mark: u32, kind: u32) -> MemberRead {
     let mut v = [0u32; 40];
     match take_fields(src, at, kind, &mut v) {
         Number::Refused(_) => read_slowly(src, at, mark, kind),
@@ -292,14 +284,25 @@ pub fn read_member(src: &[u8], at: usize, before: u32) -> MemberRead
 }
 
 // The fields of the accepted member at `at` into v: its mark and kind, and the place after it.
-pub fn take_member(src: &[u8], at: usize, v: &mut [u32; 40]) -> Head
-{
+pub fn take_member(src: &[u8], at: usize, v: &mut [u32; 40]) -> Head {
     match number_at(src, at) {
-        Number::Refused(_) => Head { mark: 0, kind: 0, next: 0 },
+        Number::Refused(_) => Head {
+            mark: 0,
+            kind: 0,
+            next: 0,
+        },
         Number::Value(mark, p) => match number_at(src, p) {
-            Number::Refused(_) => Head { mark: 0, kind: 0, next: 0 },
+            Number::Refused(_) => Head {
+                mark: 0,
+                kind: 0,
+                next: 0,
+            },
             Number::Value(kind, first) => match take_fields(src, first, kind, v) {
-                Number::Refused(_) => Head { mark: 0, kind: 0, next: 0 },
+                Number::Refused(_) => Head {
+                    mark: 0,
+                    kind: 0,
+                    next: 0,
+                },
                 Number::Value(_, next) => Head { mark, kind, next },
             },
         },
