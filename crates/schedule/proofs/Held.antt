@@ -36,19 +36,19 @@ on-checked P q test s p passes refused = cases (numberAt s p) refl
     cases (Refused r) e = refused r
 
 -- a field is not there, is stored, or refused
-on-field : (P : Reading Question (Placed (List ℕ)) → Type 0) (d : Domain) (s : List ℕ) (p i : ℕ) (v : List ℕ)
+pub on-field : (P : Reading Question (Placed (List ℕ)) → Type 0) (d : Domain) (s : List ℕ) (p i : ℕ) (v : List ℕ)
     → (asked d v ≡ false → P (got (placed v p)))
-    → ((x next : ℕ) → holds d x ≡ true → P (got (placed (set v i x) next)))
+    → ((x next : ℕ) → asked d v ≡ true → numberAt s p ≡ Value x next → holds d x ≡ true → P (got (placed (set v i x) next)))
     → ((q : Question) → P (no q)) → P (field d s p i v)
 unfolding field
 on-field P d s p i v absent stored refused =
     if-case P (asked d v) _ _
-    (λ _. on-checked (λ o. P (andThen o (λ x. got (placed (set v i (x .value)) (x .next))))) Field (holds d) s p (λ x next _ h. stored x next h) refused)
+    (λ a. on-checked (λ o. P (andThen o (λ x. got (placed (set v i (x .value)) (x .next))))) Field (holds d) s p (λ x next n h. stored x next a n h) refused)
     absent
 
 -- ---- Counts before groups.
 
-countBelow : Domain → ℕ → Bool
+unfoldable pub countBelow : Domain → ℕ → Bool
 countBelow (GroupDiameter k j) i = ltb k i
 countBelow (GroupBars k j) i = ltb k i
 countBelow (Range a b) i = true
@@ -58,12 +58,12 @@ countBelow Grade i = true
 countBelow Steel i = true
 countBelow LinkSteel i = true
 
-ordered : ℕ → List Domain → Bool
+unfoldable pub ordered : ℕ → List Domain → Bool
 ordered i [] = true
 ordered i (d ∷ ds) = countBelow d i && ordered (i + 1) ds
 
 -- whether a field is asked turns on slots below its own
-asked-same : (d : Domain) (i : ℕ) (v w : List ℕ) → countBelow d i ≡ true → ((j : ℕ) → j < i → getD w j 0 ≡ getD v j 0) → asked d w ≡ asked d v
+pub asked-same : (d : Domain) (i : ℕ) (v w : List ℕ) → countBelow d i ≡ true → ((j : ℕ) → j < i → getD w j 0 ≡ getD v j 0) → asked d w ≡ asked d v
 unfolding asked countBelow
 asked-same (GroupDiameter k j) i v w b same = rw (same k (ltb-true k i b))
 asked-same (GroupBars k j) i v w b same = rw (same k (ltb-true k i b))
@@ -99,7 +99,7 @@ module _ (s w : List ℕ) (q : ℕ) where
         holds-all = rw (asked-same d i v w (b .0) (λ j k. h .kept j (omega arith)), a) (h .holds-all);
         kept = λ j k. h .kept j (omega arith);
       })
-      (λ x next t e.
+      (λ x next _ _ t e.
       let h = held ds next (i + 1) (set v i x) (b .1) (rw (length-set v i x) (omega arith)) e in
       let at : getD w i 0 ≡ x = h .kept i (omega arith) ∙ getD-set-same v i x 0 (omega arith) in
       record {
@@ -119,12 +119,13 @@ T-true : (b : Bool) → T b → b ≡ true
 T-true true t = refl
 T-true false t = absurd t
 
+pub in-order : (kind : ℕ) → known kind ≡ true → ordered 0 (fieldsOf kind) ≡ true
+unfolding inOrder ordered countBelow fieldsOf
+in-order kind k = T-true _ (every-at inOrder [] kinds tt kind (known-below kind k))
+
 -- fields of a kind that were read pass question 7
 pub fields-held : (s w : List ℕ) (p q kind : ℕ) → known kind ≡ true → fields (fieldsOf kind) s p 0 empty ≡ got (placed w q)
     → fieldsHold (fieldsOf kind) 0 w ≡ true
-unfolding End inOrder ordered countBelow fieldsOf
+unfolding End
 fields-held s w p q kind k e =
     held s w q (fieldsOf kind) p 0 empty (in-order kind k) (omega (arith, fields-fit kind k)) e .holds-all
-  where
-    in-order : (kind : ℕ) → known kind ≡ true → ordered 0 (fieldsOf kind) ≡ true
-    in-order kind k = T-true _ (every-at inOrder [] kinds tt kind (known-below kind k))

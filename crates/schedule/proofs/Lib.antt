@@ -3,4 +3,5 @@ pub mod Held
 pub mod Members
 pub mod Answers
 pub mod Accepted
+pub mod Taken
 pub mod Examples

@@ -1,3 +1,4 @@
 pub mod Reading
 pub mod Schedule
 pub mod Result
+pub mod Taken
