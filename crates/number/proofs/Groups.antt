@@ -1,4 +1,4 @@
--- The steps of `groupsAt` as the loop of `number_at` takes them, the bounds of its sums, and the inversion: what a value that was read says
+-- The steps of `groupsAt` as the loop of `long_number` takes them, the bounds of its sums, and the inversion: what a value that was read says
 -- of the groups.
 use mathlib.Core.Path.{_≡_, refl, sym, ap, _∙_}
 use mathlib.Core.Bool.{Bool, true, false, _&&_, _||_, false≢true, or-true}
@@ -16,7 +16,7 @@ use Rattle.question.specs.declared.Question.{Question}
 use Rattle.question.specs.declared.Question.the-variants.{NumberEnds, NumberForm}
 use Rattle.number.specs.declared.Number.{Number}
 use Rattle.number.specs.declared.Number.the-variants.{Value, Refused}
-use Rattle.number.specs.Number.{groupsAt, lastGroup}
+use Rattle.number.specs.Number.{numberAt, groupsAt, lastGroup}
 
 -- ---- One step.
 
@@ -48,6 +48,29 @@ only-group b next h =
 pub none-left : (s : List ℕ) (left p w v : ℕ) → left ≤ 0 → groupsAt left s p w v ≡ Refused NumberForm
 unfolding groupsAt
 none-left s left p w v h = let e : left ≡ 0 = omega arith in rw e
+
+-- ---- The first two groups.
+
+-- a group follows the first, a
+module _ (s : List ℕ) (at a : ℕ) (q : a ≡ getD s at 0) (h : at < length s) (t : 128 ≤ a) where
+  pub from-second : numberAt s at ≡ groupsAt 4 s (at + 1) 128 (a - 128)
+  unfolding numberAt
+  from-second =
+      let e : 0 + (a - 128) * 1 ≡ a - 128 = omega arith in
+      rw (← e) (group-follows s 5 at 1 0 (omega arith) a q h t)
+
+  -- the second, b, is the last, or a third follows
+  module _ (b : ℕ) (r : b ≡ getD s (at + 1) 0) (g : at + 1 < length s) where
+    two : at + 2 ≡ at + 1 + 1
+    two = omega arith
+
+    pub second-last : b < 128 → numberAt s at ≡ lastGroup b 128 (a - 128) (at + 2)
+    second-last u = rw two (from-second ∙ last-group-at s 4 (at + 1) 128 (a - 128) (omega arith) b r g u)
+
+    pub from-third : 128 ≤ b → numberAt s at ≡ groupsAt 3 s (at + 2) 16384 (a - 128 + (b - 128) * 128)
+    from-third u = rw two (from-second ∙ group-follows s 4 (at + 1) 128 (a - 128) (omega arith) b r g u)
+
+-- ---- Bounds.
 
 -- the weight of a group, with k groups below it
 pub weight : (k : ℕ) → k < 5 → 128 ^ k ≤ 128 ^ 4

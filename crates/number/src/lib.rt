@@ -2,7 +2,7 @@
 use question::Question;
 ghost use mathlib.Core.Path.{_≡_};
 ghost use Prim.Native.Nat.{_+_, _*_, _^_, _<_};
-ghost use Rattle.number.specs.Number.{numberAt, lastGroup};
+ghost use Rattle.number.specs.Number.{numberAt, groupsAt, lastGroup};
 
 pub enum Number {
     // The value, and the place after its last group.
@@ -33,22 +33,15 @@ fn last_group(b: u64, w: u64, v: u64, next: usize) -> Number
     }
 }
 
-// The number whose first group stands at `at`.
-pub fn number_at(src: &[u8], at: usize) -> Number
-    ensures { λ r. ⌜ r ≡ numberAt (now (src .entry)) at ⌝ }
+// The groups from the third on, the third at `at`; low is the value of the first two.
+fn long_number(src: &[u8], at: usize, low: u64) -> Number
+    requires { ⌜ low < 16384 ⌝ }
+    ensures { λ r. ⌜ r ≡ groupsAt 3 (now (src .entry)) at 16384 low ⌝ }
 {
-    if src.len() <= at {
-        return Number::Refused(Question::NumberEnds);
-    }
-    // most numbers are one group
-    let first = wide(src[at]);
-    if first < 128 {
-        return Number::Value(first as u32, at + 1);
-    }
-    let mut left: usize = 4;
-    let mut p: usize = at + 1;
-    let mut w: u64 = 128;
-    let mut v: u64 = first - 128;
+    let mut left: usize = 3;
+    let mut p: usize = at;
+    let mut w: u64 = 16384;
+    let mut v: u64 = low;
     while 0 < left {
         if src.len() <= p {
             return Number::Refused(Question::NumberEnds);
@@ -63,4 +56,25 @@ pub fn number_at(src: &[u8], at: usize) -> Number
         left -= 1;
     }
     Number::Refused(Question::NumberForm)
+}
+
+// The number whose first group stands at `at`. Most numbers are one or two groups, so these are read without a loop.
+pub fn number_at(src: &[u8], at: usize) -> Number
+    ensures { λ r. ⌜ r ≡ numberAt (now (src .entry)) at ⌝ }
+{
+    if src.len() <= at {
+        return Number::Refused(Question::NumberEnds);
+    }
+    let first = wide(src[at]);
+    if first < 128 {
+        return Number::Value(first as u32, at + 1);
+    }
+    if src.len() <= at + 1 {
+        return Number::Refused(Question::NumberEnds);
+    }
+    let second = wide(src[at + 1]);
+    if second < 128 {
+        return last_group(second, 128, first - 128, at + 2);
+    }
+    long_number(src, at + 2, first - 128 + (second - 128) * 128)
 }

@@ -2,7 +2,7 @@
 // so a first pass over an empty buffer learns a text's length.
 ghost use mathlib.Core.Path.{_≡_};
 ghost use mathlib.Core.List.{_∷_, []};
-ghost use Prim.Native.Nat.{_+_, _<_, min};
+ghost use Prim.Native.Nat.{_+_, _/_, _%_, _<_, min};
 ghost use lib.ListN.{take};
 ghost use Rattle.text.specs.Text.{decimal, wordText};
 ghost use Rattle.text.specs.Put.{Put, advance};
@@ -49,16 +49,27 @@ fn digit(d: u64) -> u8
     48 + d as u8
 }
 
-// `v` in decimal from `at` on, without leading zeros.
+// The two digits of a number below 100 from `at` on.
+fn put_two(out: &mut [u8], at: usize, two: u64) -> usize
+    requires { ⌜ two < 100 ⌝ }
+    ensures { λ r. ⌜ Put (now (out .entry)) at ((48 + two / 10) ∷ (48 + two % 10) ∷ []) (now (out .exit)) r ⌝ }
+{
+    let p = put_byte(out, at, digit(two / 10));
+    put_byte(out, p, digit(two % 10))
+}
+
+// `v` in decimal from `at` on, without leading zeros. It takes two digits at a time, which halves its calls of itself.
 pub fn put_decimal(out: &mut [u8], at: usize, v: u64) -> usize
     ensures { λ r. ⌜ Put (now (out .entry)) at (decimal v) (now (out .exit)) r ⌝ }
 {
     if v < 10 {
-        put_byte(out, at, digit(v))
-    } else {
-        let p = put_decimal(out, at, v / 10);
-        put_byte(out, p, digit(v % 10))
+        return put_byte(out, at, digit(v));
     }
+    if v < 100 {
+        return put_two(out, at, v);
+    }
+    let p = put_decimal(out, at, v / 100);
+    put_two(out, p, v % 100)
 }
 
 fn smaller(a: usize, b: usize) -> usize

@@ -1,0 +1,116 @@
+-- `number::long_number` meets its contract: the answer from the third group is the answer from here, the weight is that of the groups passed,
+-- and the value so far is below it.
+use mathlib.Core.Path.{_≡_, refl, sym, _∙_}
+use Prim.Native.Nat.{_+_, _-_, _*_, _^_, _≤_, _<_}
+use native.Mathlib.Omega.{arith}
+use borrow.Author.Needs.{needs}
+use Rattle.number.specs.Number.{groupsAt}
+use Rattle.number.proofs.Groups.{file-ends, last-group-at, group-follows, none-left, weight, weight-next, below}
+use Rattle.number.proofs.long_number.Statement.{statement}
+use Rattle.number.proofs.long_number.Tie as tie
+
+abbrev Inv-loop : tie.InvT-loop
+Inv-loop src at low left₀ p₀ w₀ v₀ left p w v =
+    (left ≤ 3) × (w ≡ 128 ^ (5 - left)) × (v < w) × (1 < w) × (groupsAt 3 src at 16384 low ≡ groupsAt left src p w v)
+
+abbrev μ-loop : tie.MeasureT-loop
+μ-loop src at low left₀ p₀ w₀ v₀ left p w v = left
+
+loop-holds : tie.Need-loop-holds Inv-loop μ-loop
+loop-holds c = (search needs, refl, c .before .pre, search needs, refl)
+
+-- the weight in a turn
+top : (c : tie.After-wide Inv-loop μ-loop) → c .before .before .before .before .loop .w ≤ 128 ^ 4
+top c =
+    let l = c .before .before .before .before .loop in
+    rw (l .inv .1) (weight (5 - l .left) (omega arith))
+
+-- the value after a turn is below the next weight
+sum : (c : tie.Else2 Inv-loop μ-loop) →
+    let l = c .before .before .before .before .before .loop in
+    l .v + (c .before .wide .result - 128) * l .w < l .w * 128
+sum c =
+    let l = c .before .before .before .before .before .loop in
+    below (c .before .wide .result - 128) (l .w) (l .v)
+    (omega (arith, c .before .wide .ensures, c .before .before .shared-slice-known2 .given (l .p))) (l .inv .2)
+
+returns : tie.Need-returns Inv-loop μ-loop
+returns c =
+    let a = c .before .before in
+    sym (a .loop .inv .4 ∙ file-ends _ _ _ _ _ (c .before .loop-test .taken) (c .if1 .taken))
+
+shared-slice-read-wide : tie.Need-shared-slice-read-wide Inv-loop μ-loop
+shared-slice-read-wide c = search needs
+
+wide-requires : tie.Need-wide-requires Inv-loop μ-loop
+wide-requires c κs = search needs
+
+add-last-group : tie.Need-add-last-group Inv-loop μ-loop
+add-last-group c = search needs
+
+last-group-requires : tie.Need-last-group-requires Inv-loop μ-loop
+last-group-requires c κs =
+    let l = c .before .before .before .before .before .loop in
+    (l .inv .3, omega (arith, below (c .before .wide .result) (l .w) (l .v) (c .if2 .taken) (l .inv .2), top (c .before)))
+
+returns-2 : tie.Need-returns-2 Inv-loop μ-loop
+returns-2 c =
+    let w = c .before .before in
+    let l = w .before .before .before .before .loop in
+    c .last-group .ensures
+    ∙ sym (l .inv .4 ∙ last-group-at _ _ _ _ _ (w .before .before .before .loop-test .taken) _ (w .wide .ensures) (w .before .before .if1 .left) (c .before .if2 .taken))
+
+mul-v : tie.Need-mul-v Inv-loop μ-loop
+mul-v c = omega (arith, sum c, top (c .before))
+
+add-v : tie.Need-add-v Inv-loop μ-loop
+add-v c = omega (arith, sum c, top (c .before))
+
+mul-w : tie.Need-mul-w Inv-loop μ-loop
+mul-w c = omega (arith, top (c .before))
+
+add-p : tie.Need-add-p Inv-loop μ-loop
+add-p c = search needs
+
+sub-left : tie.Need-sub-left Inv-loop μ-loop
+sub-left c = search needs
+
+loop-less : tie.Need-loop-less Inv-loop μ-loop
+loop-less c = search needs
+
+loop-again : tie.Need-loop-again Inv-loop μ-loop
+loop-again c =
+    let w = c .before in
+    let l = w .before .before .before .before .loop in
+    let t = w .before .before .before .loop-test .taken in (
+      search needs,
+      rw (l .inv .1) (weight-next (l .left) t (omega arith)),
+      sum c,
+      omega (arith, l .inv .3),
+      l .inv .4 ∙ group-follows _ _ _ _ _ t _ (w .wide .ensures) (w .before .before .if1 .left) (c .if2 .left),
+    )
+
+returns-3 : tie.Need-returns-3 Inv-loop μ-loop
+returns-3 c = sym (c .before .loop .inv .4 ∙ none-left _ _ _ _ _ (c .loop-test .left))
+
+pub long-number-spec : {M : Type 1} → statement M
+long-number-spec =
+    tie.close
+    (tie.spec
+    Inv-loop
+    μ-loop
+    loop-holds
+    returns
+    shared-slice-read-wide
+    wide-requires
+    add-last-group
+    last-group-requires
+    returns-2
+    mul-v
+    add-v
+    mul-w
+    add-p
+    sub-left
+    loop-less
+    loop-again
+    returns-3)
