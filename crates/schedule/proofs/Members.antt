@@ -14,6 +14,7 @@ use Rattle.number.specs.Number.{numberAt}
 use Rattle.member.specs.Member.{Member}
 use Rattle.field.specs.Fields.{fieldsOf, known}
 use Rattle.built.specs.declared.Built.{Built}
+use Rattle.built.specs.declared.Verdict.{Verdict}
 use Rattle.built.specs.declared.Verdict.the-variants as verdicts
 use Rattle.built.specs.Slots.{memberOf}
 use Rattle.built.specs.Verdict.{memberVerdict}
@@ -23,7 +24,7 @@ use Rattle.schedule.specs.declared.Answer.the-variants as answers
 use Rattle.schedule.specs.Reading.{Reading, got, no, Placed, placed, andThen, ofNumber, passed, refusal, named}
 use Rattle.schedule.specs.Schedule.{empty, checked, fields, whole, markAt, kindAt, member, members}
 use Rattle.schedule.proofs.Held.{on-checked}
-use Rattle.schedule.specs.Result.{runOf, readOf, placeAfter}
+use Rattle.schedule.specs.Result.{runOf, readOf, marked, placeAfter}
 
 -- ---- A number and its question.
 
@@ -45,21 +46,45 @@ run-got r e = rw e
 pub run-no : (r : Run) (q : Question) → r .verdict ≡ verdicts.Refused q → runOf r ≡ no q
 run-no r q e = rw e
 
-pub read-got : (r : MemberRead) → r .verdict ≡ verdicts.Accepted → readOf r ≡ got (placed (r .member) (r .next))
+pub read-got : (r : MemberRead) → r .verdict ≡ verdicts.Accepted → readOf r ≡ got (placed (r .mark) (r .next))
 read-got r e = rw e
 
 pub read-no : (r : MemberRead) (q : Question) → r .verdict ≡ verdicts.Refused q → readOf r ≡ no q
 read-no r q e = rw e
 
+-- what the mark of a reading says of it
+record MarkedGot (o : Reading Question (Placed Built)) (mark next : ℕ) : Type 0 where
+  built : Built
+  was : o ≡ got (placed built next)
+  mark-is : built .mark ≡ mark
+
+marked-got : (o : Reading Question (Placed Built)) (mark next : ℕ) → marked o ≡ got (placed mark next) → MarkedGot o mark next
+marked-got (got b) mark next e =
+    let same : placed (b .value .mark) (b .next) ≡ placed mark next = cc in
+    record {
+      built = b .value;
+      was = ap (λ (k : ℕ). got (placed (b .value) k)) (ap (λ (x : Placed ℕ). x .next) same);
+      mark-is = ap (λ (x : Placed ℕ). x .value) same;
+    }
+marked-got (no q) mark next e = absurd (let z : _≡_ {A = ℕ} 0 1 = cc in omega arith)
+
+marked-no : (o : Reading Question (Placed Built)) (q : Question) → marked o ≡ no q → o ≡ no q
+marked-no (got b) q e = absurd (let z : _≡_ {A = ℕ} 0 1 = cc in omega arith)
+marked-no (no r) q e = cc
+
 module _ (mark kind : ℕ) (s : List ℕ) (p : ℕ) where
-  pub whole-no : (q : Question) → fields (fieldsOf kind) s p 0 empty ≡ no q → whole mark kind s p ≡ no q
+  pub whole-no : (q : Question) → fields (fieldsOf kind) s p 0 empty ≡ no q → marked (whole mark kind s p) ≡ no q
   unfolding whole
   whole-no q e = rw e
 
   pub whole-passed : (v : List ℕ) (next : ℕ) → fields (fieldsOf kind) s p 0 empty ≡ got (placed v next)
-      → whole mark kind s p ≡ passed (memberVerdict kind v) (got (placed (record { mark = mark; kind = kind; fields = record { v = v } }) next))
+      → marked (whole mark kind s p) ≡ passed (memberVerdict kind v) (got (placed mark next))
   unfolding whole
-  whole-passed v next e = rw e
+  whole-passed v next e = rw e (on-verdict (memberVerdict kind v))
+    where
+      on-verdict : (t : Verdict) → marked (passed t (got (placed (record { mark = mark; kind = kind; fields = record { v = v } }) next))) ≡ passed t (got (placed mark next))
+      on-verdict verdicts.Accepted = refl
+      on-verdict (verdicts.Refused q) = refl
 
 module _ (s : List ℕ) (p before : ℕ) where
   pub mark-refused : (n : Number) (q : Question) → ofNumber n ≡ markAt s p before → n ≡ Refused q → member s p before ≡ no q
@@ -98,14 +123,17 @@ module _ (n : ℕ) (s : List ℕ) (p before i : ℕ) (h : 0 < n) where
   one-more : n ≡ suc (n - 1)
   one-more = omega arith
 
-  pub member-refused : (q : Question) → member s p before ≡ no q → members n s p before i ≡ no (refusal q i)
+  pub member-refused : (q : Question) → marked (member s p before) ≡ no q → members n s p before i ≡ no (refusal q i)
   unfolding members
-  member-refused q e = rw (one-more, e)
+  member-refused q e = rw (one-more, marked-no (member s p before) q e)
 
-  pub member-read : (b : Built) (next : ℕ) → member s p before ≡ got (placed b next)
-      → placeAfter (members n s p before i) ≡ placeAfter (members (n - 1) s next (b .mark) (i + 1))
+  pub member-read : (mark next : ℕ) → marked (member s p before) ≡ got (placed mark next)
+      → placeAfter (members n s p before i) ≡ placeAfter (members (n - 1) s next mark (i + 1))
   unfolding members
-  member-read b next e = ap (λ (k : ℕ). placeAfter (members k s p before i)) one-more ∙ rw e (kept (memberOf b) (members (n - 1) s next (b .mark) (i + 1)))
+  member-read mark next e =
+      let m = marked-got (member s p before) mark next e in
+      ap (λ (k : ℕ). placeAfter (members k s p before i)) one-more
+      ∙ rw (m .was, m .mark-is) (kept (memberOf (m .built)) (members (n - 1) s next mark (i + 1)))
     where
       kept : (m : Member) (o : Reading Refusal (Placed (List Member)))
           → placeAfter (andThen o (λ ms. got (placed (m ∷ ms .value) (ms .next)))) ≡ placeAfter o

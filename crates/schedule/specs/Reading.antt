@@ -21,6 +21,11 @@ pub record Placed (A : Type 0) : Type 0 where
 abbrev pub placed : {A : Type 0} → A → ℕ → Placed A
 placed a p = record { value = a; next = p }
 
+-- no question was answered no
+pub Got : {N A : Type 0} → Reading N A → Type 0
+Got (got a) = Unit {0}
+Got (no q) = ⊥
+
 -- goes on with what was read
 abbrev pub andThen : {N A B : Type 0} → Reading N A → (A → Reading N B) → Reading N B
 andThen (got a) f = f a

@@ -8,6 +8,7 @@ use Rattle.member.specs.Member.{Member}
 use Rattle.built.specs.declared.Built.{Built}
 use Rattle.schedule.specs.declared.Run.{Run}
 use Rattle.schedule.specs.declared.MemberRead.{MemberRead}
+use Rattle.schedule.specs.declared.Head.{Head}
 use Rattle.schedule.specs.declared.Ends.{Ends}
 use Rattle.schedule.specs.declared.Ends.the-variants.{At}
 use Rattle.schedule.specs.declared.Ends.the-variants as ends
@@ -18,8 +19,17 @@ use Rattle.schedule.specs.Reading.{Reading, got, no, Placed, placed, pas
 abbrev pub runOf : Run → Reading Question (Placed (List ℕ))
 runOf r = passed (r .verdict) (got (placed (r .slots .v) (r .next)))
 
-abbrev pub readOf : MemberRead → Reading Question (Placed Built)
-readOf r = passed (r .verdict) (got (placed (r .member) (r .next)))
+abbrev pub readOf : MemberRead → Reading Question (Placed ℕ)
+readOf r = passed (r .verdict) (got (placed (r .mark) (r .next)))
+
+-- the mark of a member that was read
+abbrev pub marked : Reading Question (Placed Built) → Reading Question (Placed ℕ)
+marked (got b) = got (placed (b .value .mark) (b .next))
+marked (no q) = no q
+
+-- the member of this mark and kind whose fields stand in the slots v
+abbrev pub headed : Head → List ℕ → Built
+headed r v = record { mark = r .mark; kind = r .kind; fields = record { v = v } }
 
 abbrev pub endsOf : Ends → Reading Refusal ℕ
 endsOf (At p) = got p

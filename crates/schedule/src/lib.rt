@@ -1,12 +1,13 @@
 // Reads the bytes of a schedule: every byte string is accepted or gets the first question answered no, with its member.
 ghost use mathlib.Core.Path.{_≡_};
 ghost use mathlib.Core.Bool.{true};
-ghost use Prim.Native.Nat.{_≤_};
+ghost use Prim.Native.Nat.{_+_, _-_, _≤_, min};
 ghost use Rattle.field.specs.Domain.{holds};
-ghost use Rattle.field.specs.Fields.{fieldsOf, known};
-ghost use Rattle.schedule.specs.Reading.{no, ofNumber, refusal};
+ghost use Rattle.field.specs.Fields.{groups, beamFields, columnFields, fieldsOf, known};
+ghost use Rattle.schedule.specs.Reading.{got, no, placed, ofNumber, refusal, Got};
+ghost use Rattle.schedule.specs.Taken.{run, taken, tookOf};
 ghost use Rattle.schedule.specs.Schedule.{empty, checked, fields, whole, markRises, markAt, kindAt, member, members, schedule};
-ghost use Rattle.schedule.specs.Result.{runOf, readOf, endsOf, placeAfter, answerOf};
+ghost use Rattle.schedule.specs.Result.{runOf, readOf, marked, headed, endsOf, placeAfter, answerOf};
 use built::Verdict;
 use built::mark_in_range;
 use built::member_verdict;
@@ -131,7 +132,10 @@ fn read_fields(src: &[u8], at: usize, kind: u32) -> Run
 }
 
 // The numbers from `at` on into the slots from `from` up to `end`: the place after them.
-fn take_run(src: &[u8], at: usize, v: &mut [u32; 40], from: usize, end: usize) -> Number {
+fn take_run(src: &[u8], at: usize, v: &mut [u32; 40], from: usize, end: usize) -> Number
+    requires { ⌜ (from ≤ end) × (end ≤ 40) ⌝ }
+    ensures { λ r. ⌜ tookOf r (now (v .exit)) ≡ run (end - from) (now (src .entry)) at from (now (v .entry)) ⌝ }
+{
     let mut p = at;
     let mut i = from;
     while i < end {
@@ -147,14 +151,25 @@ fn take_run(src: &[u8], at: usize, v: &mut [u32; 40], from: usize, end: usize) -
     Number::Value(0, p)
 }
 
-// The groups of a list whose count stands in slot k.
-fn take_list(src: &[u8], at: usize, v: &mut [u32; 40], k: usize) -> Number {
-    let n = v[k];
-    let groups = if n < 4 { n as usize } else { 4 };
-    take_run(src, at, v, k + 1, k + 1 + 2 * groups)
+fn at_most_four(count: u32) -> usize
+    ensures { λ r. ⌜ r ≡ min count 4 ⌝ }
+{
+    if count < 4 { count as usize } else { 4 }
 }
 
-fn take_beam(src: &[u8], at: usize, v: &mut [u32; 40]) -> Number {
+// The groups of a list whose count stands in slot k.
+fn take_list(src: &[u8], at: usize, v: &mut [u32; 40], k: usize) -> Number
+    requires { ⌜ k ≤ 31 ⌝ }
+    ensures { λ r. ⌜ tookOf r (now (v .exit)) ≡ taken (groups k) (now (src .entry)) at (k + 1) (now (v .entry)) ⌝ }
+{
+    let n = at_most_four(v[k]);
+    take_run(src, at, v, k + 1, k + 1 + 2 * n)
+}
+
+// The fields of a beam.
+fn take_beam(src: &[u8], at: usize, v: &mut [u32; 40]) -> Number
+    ensures { λ r. ⌜ tookOf r (now (v .exit)) ≡ taken beamFields (now (src .entry)) at 0 (now (v .entry)) ⌝ }
+{
     match take_run(src, at, v, 0, 9) {
         Number::Refused(q) => Number::Refused(q),
         Number::Value(_, tension) => match take_list(src, tension, v, 8) {
@@ -170,7 +185,10 @@ fn take_beam(src: &[u8], at: usize, v: &mut [u32; 40]) -> Number {
     }
 }
 
-fn take_column(src: &[u8], at: usize, v: &mut [u32; 40]) -> Number {
+// The fields of a column.
+fn take_column(src: &[u8], at: usize, v: &mut [u32; 40]) -> Number
+    ensures { λ r. ⌜ tookOf r (now (v .exit)) ≡ taken columnFields (now (src .entry)) at 0 (now (v .entry)) ⌝ }
+{
     match take_run(src, at, v, 0, 5) {
         Number::Refused(q) => Number::Refused(q),
         Number::Value(_, groups) => match take_list(src, groups, v, 4) {
@@ -180,7 +198,11 @@ fn take_column(src: &[u8], at: usize, v: &mut [u32; 40]) -> Number {
     }
 }
 
-fn take_fields(src: &[u8], at: usize, kind: u32, v: &mut [u32; 40]) -> Number {
+// The fields of a kind from `at` on, into v: the place after them.
+fn take_fields(src: &[u8], at: usize, kind: u32, v: &mut [u32; 40]) -> Number
+    requires { ⌜ known kind ≡ true ⌝ }
+    ensures { λ r. ⌜ tookOf r (now (v .exit)) ≡ taken (fieldsOf kind) (now (src .entry)) at 0 (now (v .entry)) ⌝ }
+{
     match kind {
         1 => take_beam(src, at, v),
         2 => take_column(src, at, v),
@@ -188,7 +210,9 @@ fn take_fields(src: &[u8], at: usize, kind: u32, v: &mut [u32; 40]) -> Number {
     }
 }
 
-fn refused_member(q: Question) -> MemberRead {
+fn refused_member(q: Question) -> MemberRead
+    ensures { λ r. ⌜ readOf r ≡ no q ⌝ }
+{
     MemberRead {
         verdict: Verdict::Refused(q),
         mark: 0,
@@ -196,8 +220,11 @@ fn refused_member(q: Question) -> MemberRead {
     }
 }
 
-// The member with this mark and kind, whose fields stand from `at` on, field by field.
-fn read_slowly(src: &[u8], at: usize, mark: u32, kind: u32) -> MemberRead {
+// The member with this mark and kind, whose fields are read one by one from `at` on.
+fn read_one_by_one(src: &[u8], at: usize, mark: u32, kind: u32) -> MemberRead
+    requires { ⌜ known kind ≡ true ⌝ }
+    ensures { λ r. ⌜ readOf r ≡ marked (whole mark kind (now (src .entry)) at) ⌝ }
+{
     let run = read_fields(src, at, kind);
     let verdict = run.verdict;
     let fields = run.slots;
@@ -212,11 +239,14 @@ fn read_slowly(src: &[u8], at: usize, mark: u32, kind: u32) -> MemberRead {
     }
 }
 
-// The same. Fields that hold are taken at once; field by field is asked where one does not, which of them is the first.
-fn read_whole(src: &[u8], at: usize, mark: u32, kind: u32) -> MemberRead {
+// The same, faster: the fields are taken at once and put question 7 together. Where that fails, one by one finds the first no.
+fn read_whole(src: &[u8], at: usize, mark: u32, kind: u32) -> MemberRead
+    requires { ⌜ known kind ≡ true ⌝ }
+    ensures { λ r. ⌜ readOf r ≡ marked (whole mark kind (now (src .entry)) at) ⌝ }
+{
     let mut v = [0u32; 40];
     match take_fields(src, at, kind, &mut v) {
-        Number::Refused(_) => read_slowly(src, at, mark, kind),
+        Number::Refused(_) => read_one_by_one(src, at, mark, kind),
         Number::Value(_, next) => {
             if fields_hold(kind, &v) {
                 MemberRead {
@@ -225,7 +255,7 @@ fn read_whole(src: &[u8], at: usize, mark: u32, kind: u32) -> MemberRead {
                     next,
                 }
             } else {
-                read_slowly(src, at, mark, kind)
+                read_one_by_one(src, at, mark, kind)
             }
         }
     }
@@ -272,7 +302,7 @@ fn read_kind(src: &[u8], at: usize) -> Number
 
 // The member at `at`, its mark above the one before.
 pub fn read_member(src: &[u8], at: usize, before: u32) -> MemberRead
-    ensures { λ r. ⌜ readOf r ≡ member (now (src .entry)) at before ⌝ }
+    ensures { λ r. ⌜ readOf r ≡ marked (member (now (src .entry)) at before) ⌝ }
 {
     match read_mark(src, at, before) {
         Number::Refused(q) => refused_member(q),
@@ -283,26 +313,26 @@ pub fn read_member(src: &[u8], at: usize, before: u32) -> MemberRead
     }
 }
 
-// The fields of the accepted member at `at` into v: its mark and kind, and the place after it.
-pub fn take_member(src: &[u8], at: usize, v: &mut [u32; 40]) -> Head {
+// Stands where an accepted member would be refused.
+fn no_head() -> Head {
+    Head {
+        mark: 0,
+        kind: 0,
+        next: 0,
+    }
+}
+
+// The fields of the accepted member at `at` into empty slots: its mark and kind, and the place after it.
+pub fn take_member(src: &[u8], at: usize, v: &mut [u32; 40]) -> Head
+    requires { ⌜ (now (v .entry) ≡ empty) × (Got (member (now (src .entry)) at 0)) ⌝ }
+    ensures { λ r. ⌜ member (now (src .entry)) at 0 ≡ got (placed (headed r (now (v .exit))) (r .next)) ⌝ }
+{
     match number_at(src, at) {
-        Number::Refused(_) => Head {
-            mark: 0,
-            kind: 0,
-            next: 0,
-        },
+        Number::Refused(_) => no_head(),
         Number::Value(mark, p) => match number_at(src, p) {
-            Number::Refused(_) => Head {
-                mark: 0,
-                kind: 0,
-                next: 0,
-            },
+            Number::Refused(_) => no_head(),
             Number::Value(kind, first) => match take_fields(src, first, kind, v) {
-                Number::Refused(_) => Head {
-                    mark: 0,
-                    kind: 0,
-                    next: 0,
-                },
+                Number::Refused(_) => no_head(),
                 Number::Value(_, next) => Head { mark, kind, next },
             },
         },

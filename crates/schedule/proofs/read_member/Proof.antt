@@ -1,5 +1,6 @@
 -- `schedule::read_member` meets its contract.
-use mathlib.Core.Path.{sym, _∙_}
+use mathlib.Core.Path.{sym, ap, _∙_}
+use Rattle.schedule.specs.Result.{marked}
 use Rattle.schedule.proofs.Members.{mark-refused, kind-refused, member-whole, kind-known}
 use borrow.Author.Needs.{needs}
 use Rattle.schedule.proofs.read_member.Statement.{statement}
@@ -37,7 +38,7 @@ read-whole-requires c κs =
 returns : tie.Need-returns
 returns c =
     let x = c .before .before in
-    c .refused-member .ensures ∙ sym (mark-refused _ _ _ _ _ (x .before .before .read-mark .ensures) (x .q .given .1))
+    c .refused-member .ensures ∙ sym (ap marked (mark-refused _ _ _ _ _ (x .before .before .read-mark .ensures) (x .q .given .1)))
 
 returns-2 : tie.Need-returns-2
 returns-2 c =
@@ -45,7 +46,7 @@ returns-2 c =
     let k = x .before .before in
     let m = k .before .before in
     c .refused-member2 .ensures
-    ∙ sym (kind-refused _ _ _ _ _ _ (m .before .before .read-mark .ensures) (m .mark .given .1) _ _ (k .read-kind .ensures) (x .q2 .given .1))
+    ∙ sym (ap marked (kind-refused _ _ _ _ _ _ (m .before .before .read-mark .ensures) (m .mark .given .1) _ _ (k .read-kind .ensures) (x .q2 .given .1)))
 
 returns-3 : tie.Need-returns-3
 returns-3 c =
@@ -53,7 +54,7 @@ returns-3 c =
     let k = x .before .before in
     let m = k .before .before in
     c .read-whole .ensures
-    ∙ sym (member-whole _ _ _ _ _ _ (m .before .before .read-mark .ensures) (m .mark .given .1) _ _ _ (k .read-kind .ensures) (x .kind .given .1))
+    ∙ sym (ap marked (member-whole _ _ _ _ _ _ (m .before .before .read-mark .ensures) (m .mark .given .1) _ _ _ (k .read-kind .ensures) (x .kind .given .1)))
 
 pub read-member-spec : {M : Type 1} → statement M
 read-member-spec =
