@@ -47,19 +47,21 @@ fn index(x: u32) -> usize
 }
 
 fn length_at(v: &[u32; 40], i: usize) -> Length
+    requires { ⌜ i < 40 ⌝ }
     ensures { λ r. ⌜ r .0 ≡ getD (now (v .entry)) i 0 ⌝ }
 {
     Length(wide(v[i]))
 }
 
 fn force_at(v: &[u32; 40], i: usize) -> Force
+    requires { ⌜ i < 40 ⌝ }
     ensures { λ r. ⌜ r .0 ≡ getD (now (v .entry)) i 0 ⌝ }
 {
     Force(wide(v[i]))
 }
 
 fn group_at(v: &[u32; 40], i: usize) -> Group
-    requires { ⌜ i < 40 ⌝ }
+    requires { ⌜ i < 39 ⌝ }
     ensures { λ r. ⌜ r ≡ group (now (v .entry)) i ⌝ }
 {
     Group {
@@ -151,7 +153,7 @@ pub fn mesh_of(v: &[u32; 40]) -> Mesh
 
 // 8 to 10 of a beam whose fields passed question 7.
 fn beam_verdict(v: &[u32; 40]) -> Verdict
-    requires { ⌜ fieldsHold (fieldsOf 1) 0 (now (v .entry)) ≡ true ⌝ }
+    requires { ⌜ fieldsHold (fieldsOf 1) 0 (now v) ≡ true ⌝ }
     ensures { λ r. ⌜ r ≡ beamVerdict (beamAt (now (v .entry))) ⌝ }
 {
     let x = beam_of(v);
@@ -172,7 +174,7 @@ fn beam_verdict(v: &[u32; 40]) -> Verdict
 
 // 8 and 9 of a column whose fields passed question 7.
 fn column_verdict(v: &[u32; 40]) -> Verdict
-    requires { ⌜ fieldsHold (fieldsOf 2) 0 (now (v .entry)) ≡ true ⌝ }
+    requires { ⌜ fieldsHold (fieldsOf 2) 0 (now v) ≡ true ⌝ }
     ensures { λ r. ⌜ r ≡ columnVerdict (columnAt (now (v .entry))) ⌝ }
 {
     let x = column_of(v);
@@ -200,7 +202,7 @@ fn mesh_verdict(v: &[u32; 40]) -> Verdict
 
 // 8 to 10 of a member whose fields passed question 7.
 pub fn member_verdict(kind: u32, v: &[u32; 40]) -> Verdict
-    requires { ⌜ (known kind ≡ true) × (fieldsHold (fieldsOf kind) 0 (now (v .entry)) ≡ true) ⌝ }
+    requires { ⌜ (known kind ≡ true) × (fieldsHold (fieldsOf kind) 0 (now v) ≡ true) ⌝ }
     ensures { λ r. ⌜ r ≡ memberVerdict kind (now (v .entry)) ⌝ }
 {
     match kind {
@@ -221,8 +223,7 @@ pub fn mark_in_range(mark: u32) -> bool
 pub fn built_verdict(x: Built) -> Verdict
     ensures { λ r. ⌜ r ≡ builtVerdict (x .mark) (x .kind) (x .fields .v) ⌝ }
 {
-    let t = x.fields;
-    let v = t.v;
+    let v = x.fields.v;
     if mark_in_range(x.mark) {
         if is_known(x.kind) {
             if fields_hold(x.kind, &v) {

@@ -1,6 +1,6 @@
 -- `built::beam_of` meets its contract.
 use Rattle.built.proofs.Made.{beam-made}
-use mathlib.Core.Path.{_∙_}
+use mathlib.Core.Path.{refl}
 use Rattle.built.specs.Slots.{beamAt}
 use borrow.Author.Needs.{needs}
 use Rattle.built.proofs.beam_of.Statement.{statement}
@@ -24,14 +24,14 @@ length-at-requires-5 c κs = search needs
 length-at-requires-6 : tie.Need-length-at-requires-6
 length-at-requires-6 c κs = search needs
 
-slot-requires : tie.Need-slot-requires
-slot-requires c κs = search needs
+element-copy-out-t10 : tie.Need-element-copy-out-t10
+element-copy-out-t10 c = search needs
 
-slot-requires-2 : tie.Need-slot-requires-2
-slot-requires-2 c κs = search needs
+element-copy-out-t13 : tie.Need-element-copy-out-t13
+element-copy-out-t13 c = search needs
 
-slot-requires-3 : tie.Need-slot-requires-3
-slot-requires-3 c κs = search needs
+element-copy-out-index : tie.Need-element-copy-out-index
+element-copy-out-index c = search needs
 
 index-requires : tie.Need-index-requires
 index-requires c κs = search needs
@@ -39,8 +39,8 @@ index-requires c κs = search needs
 groups-at-requires : tie.Need-groups-at-requires
 groups-at-requires c κs = search needs
 
-slot-requires-4 : tie.Need-slot-requires-4
-slot-requires-4 c κs = search needs
+element-copy-out-index-2 : tie.Need-element-copy-out-index-2
+element-copy-out-index-2 c = search needs
 
 index-requires-2 : tie.Need-index-requires-2
 index-requires-2 c κs = search needs
@@ -48,17 +48,17 @@ index-requires-2 c κs = search needs
 groups-at-requires-2 : tie.Need-groups-at-requires-2
 groups-at-requires-2 c κs = search needs
 
-slot-requires-5 : tie.Need-slot-requires-5
-slot-requires-5 c κs = search needs
+element-copy-out-t26 : tie.Need-element-copy-out-t26
+element-copy-out-t26 c = search needs
 
-slot-requires-6 : tie.Need-slot-requires-6
-slot-requires-6 c κs = search needs
+element-copy-out-t29 : tie.Need-element-copy-out-t29
+element-copy-out-t29 c = search needs
 
 length-at-requires-7 : tie.Need-length-at-requires-7
 length-at-requires-7 c κs = search needs
 
-slot-requires-7 : tie.Need-slot-requires-7
-slot-requires-7 c κs = search needs
+element-copy-out-t33 : tie.Need-element-copy-out-t33
+element-copy-out-t33 c = search needs
 
 length-at-requires-8 : tie.Need-length-at-requires-8
 length-at-requires-8 c κs = search needs
@@ -66,14 +66,14 @@ length-at-requires-8 c κs = search needs
 length-at-requires-9 : tie.Need-length-at-requires-9
 length-at-requires-9 c κs = search needs
 
-slot-requires-8 : tie.Need-slot-requires-8
-slot-requires-8 c κs = search needs
+element-copy-out-wide : tie.Need-element-copy-out-wide
+element-copy-out-wide c = search needs
 
 wide-requires : tie.Need-wide-requires
 wide-requires c κs = search needs
 
-slot-requires-9 : tie.Need-slot-requires-9
-slot-requires-9 c κs = search needs
+element-copy-out-wide-2 : tie.Need-element-copy-out-wide-2
+element-copy-out-wide-2 c = search needs
 
 wide-requires-2 : tie.Need-wide-requires-2
 wide-requires-2 c κs = search needs
@@ -81,11 +81,11 @@ wide-requires-2 c κs = search needs
 force-at-requires : tie.Need-force-at-requires
 force-at-requires c κs = search needs
 
-slot-requires-10 : tie.Need-slot-requires-10
-slot-requires-10 c κs = search needs
+element-copy-out-t47 : tie.Need-element-copy-out-t47
+element-copy-out-t47 c = search needs
 
-slot-requires-11 : tie.Need-slot-requires-11
-slot-requires-11 c κs = search needs
+element-copy-out-t50 : tie.Need-element-copy-out-t50
+element-copy-out-t50 c = search needs
 
 returns : tie.Need-returns
 unfolding beamAt
@@ -99,23 +99,23 @@ returns c =
     (start .before .before .before .before .before .length-at4 .ensures)
     (start .before .before .before .before .length-at5 .ensures)
     (start .before .before .before .length-at6 .ensures)
-    (start .before .before .slot .ensures)
-    (start .before .slot2 .ensures)
-    (middle .before .before .before .before .before .before .before .before .index .ensures ∙ start .slot3 .ensures)
+    refl
+    refl
+    (middle .before .before .before .before .before .before .before .before .index .ensures)
     (middle .before .before .before .before .before .before .before .groups-at .ensures)
-    (middle .before .before .before .before .before .index2 .ensures ∙ middle .before .before .before .before .before .before .slot4 .ensures)
+    (middle .before .before .before .before .before .index2 .ensures)
     (middle .before .before .before .before .groups-at2 .ensures)
-    (middle .before .before .before .slot5 .ensures)
-    (middle .before .before .slot6 .ensures)
+    refl
+    refl
     (middle .before .length-at7 .ensures)
-    (middle .slot7 .ensures)
+    refl
     (c .before .before .before .before .before .before .before .before .length-at8 .ensures)
     (c .before .before .before .before .before .before .before .length-at9 .ensures)
-    (c .before .before .before .before .before .wide .ensures ∙ c .before .before .before .before .before .before .slot8 .ensures)
-    (c .before .before .before .wide2 .ensures ∙ c .before .before .before .before .slot9 .ensures)
+    (c .before .before .before .before .before .wide .ensures)
+    (c .before .before .before .wide2 .ensures)
     (c .before .before .force-at .ensures)
-    (c .before .slot10 .ensures)
-    (c .slot11 .ensures)
+    refl
+    refl
 
 pub beam-of-spec : {M : Type 1} → statement M
 beam-of-spec =
@@ -127,25 +127,25 @@ beam-of-spec =
     length-at-requires-4
     length-at-requires-5
     length-at-requires-6
-    slot-requires
-    slot-requires-2
-    slot-requires-3
+    element-copy-out-t10
+    element-copy-out-t13
+    element-copy-out-index
     index-requires
     groups-at-requires
-    slot-requires-4
+    element-copy-out-index-2
     index-requires-2
     groups-at-requires-2
-    slot-requires-5
-    slot-requires-6
+    element-copy-out-t26
+    element-copy-out-t29
     length-at-requires-7
-    slot-requires-7
+    element-copy-out-t33
     length-at-requires-8
     length-at-requires-9
-    slot-requires-8
+    element-copy-out-wide
     wide-requires
-    slot-requires-9
+    element-copy-out-wide-2
     wide-requires-2
     force-at-requires
-    slot-requires-10
-    slot-requires-11
+    element-copy-out-t47
+    element-copy-out-t50
     returns)

@@ -12,25 +12,26 @@ is-known-requires : tie.Need-is-known-requires
 is-known-requires c κs = search needs
 
 fields-hold-requires : tie.Need-fields-hold-requires
-fields-hold-requires c κs = sym (c .before .is-known .ensures) ∙ c .if2 .taken
+fields-hold-requires c κs = let k = c .before in sym (k .before .is-known .ensures) ∙ k .if2 .taken
 
 member-verdict-requires : tie.Need-member-verdict-requires
 member-verdict-requires c κs =
-    let k = c .before .before in
-    (sym (k .before .is-known .ensures) ∙ k .if2 .taken, sym (c .before .fields-hold .ensures) ∙ c .if3 .taken)
+    let f = c .before in
+    let k = f .before .before .before in
+    (sym (k .before .is-known .ensures) ∙ k .if2 .taken, sym (f .before .fields-hold .ensures) ∙ f .if3 .taken)
 
 returns : tie.Need-returns
 unfolding builtVerdict
 returns c =
-    let f = c .before in
-    let k = f .before .before in
+    let f = c .before .before in
+    let k = f .before .before .before in
     let m = k .before .before in
     rw (sym (m .before .mark-in-range .ensures) ∙ m .if1 .taken, sym (k .before .is-known .ensures) ∙ k .if2 .taken, sym (f .before .fields-hold .ensures) ∙ f .if3 .taken) (c .member-verdict .ensures)
 
 returns-2 : tie.Need-returns-2
 unfolding builtVerdict
 returns-2 c =
-    let k = c .before .before in
+    let k = c .before .before .before in
     let m = k .before .before in
     rw (sym (m .before .mark-in-range .ensures) ∙ m .if1 .taken, sym (k .before .is-known .ensures) ∙ k .if2 .taken, sym (c .before .fields-hold .ensures) ∙ c .if3 .left)
 

@@ -10,14 +10,14 @@ length-at-requires c κs = search needs
 length-at-requires-2 : tie.Need-length-at-requires-2
 length-at-requires-2 c κs = search needs
 
-slot-requires : tie.Need-slot-requires
-slot-requires c κs = search needs
+element-copy-out-t6 : tie.Need-element-copy-out-t6
+element-copy-out-t6 c = search needs
 
-slot-requires-2 : tie.Need-slot-requires-2
-slot-requires-2 c κs = search needs
+element-copy-out-t9 : tie.Need-element-copy-out-t9
+element-copy-out-t9 c = search needs
 
-slot-requires-3 : tie.Need-slot-requires-3
-slot-requires-3 c κs = search needs
+element-copy-out-index : tie.Need-element-copy-out-index
+element-copy-out-index c = search needs
 
 index-requires : tie.Need-index-requires
 index-requires c κs = search needs
@@ -25,8 +25,8 @@ index-requires c κs = search needs
 groups-at-requires : tie.Need-groups-at-requires
 groups-at-requires c κs = search needs
 
-slot-requires-4 : tie.Need-slot-requires-4
-slot-requires-4 c κs = search needs
+element-copy-out-t17 : tie.Need-element-copy-out-t17
+element-copy-out-t17 c = search needs
 
 length-at-requires-3 : tie.Need-length-at-requires-3
 length-at-requires-3 c κs = search needs
@@ -47,12 +47,12 @@ column-of-spec =
     (tie.spec
     length-at-requires
     length-at-requires-2
-    slot-requires
-    slot-requires-2
-    slot-requires-3
+    element-copy-out-t6
+    element-copy-out-t9
+    element-copy-out-index
     index-requires
     groups-at-requires
-    slot-requires-4
+    element-copy-out-t17
     length-at-requires-3
     length-at-requires-4
     force-at-requires

@@ -4,32 +4,32 @@ use borrow.Author.Needs.{needs}
 use Rattle.built.proofs.mesh_of.Statement.{statement}
 use Rattle.built.proofs.mesh_of.Tie as tie
 
-slot-requires : tie.Need-slot-requires
-slot-requires c κs = search needs
+element-copy-out-t4 : tie.Need-element-copy-out-t4
+element-copy-out-t4 c = search needs
 
-slot-requires-2 : tie.Need-slot-requires-2
-slot-requires-2 c κs = search needs
+element-copy-out-t7 : tie.Need-element-copy-out-t7
+element-copy-out-t7 c = search needs
 
 length-at-requires : tie.Need-length-at-requires
 length-at-requires c κs = search needs
 
-slot-requires-3 : tie.Need-slot-requires-3
-slot-requires-3 c κs = search needs
+element-copy-out-t11 : tie.Need-element-copy-out-t11
+element-copy-out-t11 c = search needs
 
-slot-requires-4 : tie.Need-slot-requires-4
-slot-requires-4 c κs = search needs
+element-copy-out-t14 : tie.Need-element-copy-out-t14
+element-copy-out-t14 c = search needs
 
-slot-requires-5 : tie.Need-slot-requires-5
-slot-requires-5 c κs = search needs
+element-copy-out-t17 : tie.Need-element-copy-out-t17
+element-copy-out-t17 c = search needs
 
-slot-requires-6 : tie.Need-slot-requires-6
-slot-requires-6 c κs = search needs
+element-copy-out-t20 : tie.Need-element-copy-out-t20
+element-copy-out-t20 c = search needs
 
-slot-requires-7 : tie.Need-slot-requires-7
-slot-requires-7 c κs = search needs
+element-copy-out-t23 : tie.Need-element-copy-out-t23
+element-copy-out-t23 c = search needs
 
-slot-requires-8 : tie.Need-slot-requires-8
-slot-requires-8 c κs = search needs
+element-copy-out-t26 : tie.Need-element-copy-out-t26
+element-copy-out-t26 c = search needs
 
 length-at-requires-2 : tie.Need-length-at-requires-2
 length-at-requires-2 c κs = search needs
@@ -45,15 +45,15 @@ pub mesh-of-spec : {M : Type 1} → statement M
 mesh-of-spec =
     tie.close
     (tie.spec
-    slot-requires
-    slot-requires-2
+    element-copy-out-t4
+    element-copy-out-t7
     length-at-requires
-    slot-requires-3
-    slot-requires-4
-    slot-requires-5
-    slot-requires-6
-    slot-requires-7
-    slot-requires-8
+    element-copy-out-t11
+    element-copy-out-t14
+    element-copy-out-t17
+    element-copy-out-t20
+    element-copy-out-t23
+    element-copy-out-t26
     length-at-requires-2
     length-at-requires-3
     returns)
