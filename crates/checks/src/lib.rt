@@ -13,7 +13,7 @@ use outcome::Outcome;
 
 // The outcome of an accepted member.
 pub fn check_member(mark: u32, kind: u32, v: &[u32; 40]) -> Outcome
-    requires { ⌜ AcceptedMember (memberAt mark kind (now (v .entry))) ⌝ }
+    requires { ⌜ AcceptedMember (memberAt mark kind (now v)) ⌝ }
     ensures { λ r. ⌜ r ≡ outcomeOf (memberAt mark kind (now (v .entry))) ⌝ }
 {
     match kind {

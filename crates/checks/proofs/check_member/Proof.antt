@@ -8,20 +8,20 @@ beam-of-requires : tie.Need-beam-of-requires
 beam-of-requires c κs = search needs
 
 check-beam-requires : tie.Need-check-beam-requires
-check-beam-requires c κs = rw (c .beam-of .ensures) (as-beam _ _ (c .before .match .keys1) (c .before .before .before .pre))
+check-beam-requires c κs = rw (c .beam-of .ensures) (as-beam _ _ (c .before .match .keys1) (c .before .before .pre))
 
 column-of-requires : tie.Need-column-of-requires
 column-of-requires c κs = search needs
 
 check-column-requires : tie.Need-check-column-requires
-check-column-requires c κs = rw (c .column-of .ensures) (as-column _ _ (c .before .match .keys2) (c .before .before .before .pre))
+check-column-requires c κs = rw (c .column-of .ensures) (as-column _ _ (c .before .match .keys2) (c .before .before .pre))
 
 mesh-of-requires : tie.Need-mesh-of-requires
 mesh-of-requires c κs = search needs
 
 check-mesh-requires : tie.Need-check-mesh-requires
 check-mesh-requires c κs =
-    rw (c .mesh-of .ensures) (as-mesh _ _ (c .before .match .rest .0 .1) (c .before .match .rest .1) (c .before .before .before .pre))
+    rw (c .mesh-of .ensures) (as-mesh _ _ (c .before .match .rest .0 .1) (c .before .match .rest .1) (c .before .before .pre))
 
 returns : tie.Need-returns
 returns c = beam-outcome _ _ (c .before .before .match .keys1) (c .before .beam-of .ensures) (c .check-beam .ensures)
