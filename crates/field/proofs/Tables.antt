@@ -65,7 +65,7 @@ pub in-middle : (xs ys zs : List Domain) (i : ℕ) → length xs ≤ i → i < l
 in-middle xs ys zs i l h =
     let e : length xs + (i - length xs) ≡ i = omega arith in
     sym (List·getD-append ys zs Grade (i - length xs) (omega arith)) ∙ sym (getD-append-add xs (ys ++ zs) (i - length xs) Grade)
-        ∙ ap (λ (n : ℕ). getD (xs ++ (ys ++ zs)) n Grade) e
+    ∙ ap (λ (n : ℕ). getD (xs ++ (ys ++ zs)) n Grade) e
 
 -- ---- Question 7, as the code joins its parts.
 

@@ -70,7 +70,11 @@ fn has_group(v: &[u32; 40], count: u32, place: u32) -> bool
 {
     let slots: &[u32] = v;
     let i = count as usize;
-    if i < slots.len() { place < slots[i] } else { false }
+    if i < slots.len() {
+        place < slots[i]
+    } else {
+        false
+    }
 }
 
 // Whether the field is there: a group past its count is not.

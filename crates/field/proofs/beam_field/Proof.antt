@@ -29,12 +29,12 @@ group-field-requires-2 c κs = place-within 18 8 _ (past-compression (c .before)
 returns-21 : tie.Need-returns-21
 returns-21 c =
     c .group-field .ensures
-        ∙ in-middle (take 9 beamFields) (groups 8) (drop 17 beamFields) _ (past-tension (c .before .before)) (c .before .if1 .taken)
+    ∙ in-middle (take 9 beamFields) (groups 8) (drop 17 beamFields) _ (past-tension (c .before .before)) (c .before .if1 .taken)
 
 returns-22 : tie.Need-returns-22
 returns-22 c =
     c .group-field2 .ensures
-        ∙ in-middle (take 18 beamFields) (groups 17) (drop 26 beamFields) _ (past-compression (c .before .before)) (c .before .if2 .taken)
+    ∙ in-middle (take 18 beamFields) (groups 17) (drop 26 beamFields) _ (past-compression (c .before .before)) (c .before .if2 .taken)
 
 returns-23 : tie.Need-returns-23
 returns-23 c = rw (last-place 36 _ (none-from _ 26 10 _ (c .if2 .left) (c .before .before .match .rest)) (c .before .before .before .pre))

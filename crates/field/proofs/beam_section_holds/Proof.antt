@@ -4,84 +4,6 @@ use borrow.Author.Needs.{needs}
 use Rattle.field.proofs.beam_section_holds.Statement.{statement}
 use Rattle.field.proofs.beam_section_holds.Tie as tie
 
-beam-field-requires : tie.Need-beam-field-requires
-beam-field-requires c κs = search needs
-
-slot-holds-requires : tie.Need-slot-holds-requires
-slot-holds-requires c κs = search needs
-
-beam-field-requires-2 : tie.Need-beam-field-requires-2
-beam-field-requires-2 c κs = search needs
-
-slot-holds-requires-2 : tie.Need-slot-holds-requires-2
-slot-holds-requires-2 c κs = search needs
-
-beam-field-requires-3 : tie.Need-beam-field-requires-3
-beam-field-requires-3 c κs = search needs
-
-slot-holds-requires-3 : tie.Need-slot-holds-requires-3
-slot-holds-requires-3 c κs = search needs
-
-beam-field-requires-4 : tie.Need-beam-field-requires-4
-beam-field-requires-4 c κs = search needs
-
-slot-holds-requires-4 : tie.Need-slot-holds-requires-4
-slot-holds-requires-4 c κs = search needs
-
-beam-field-requires-5 : tie.Need-beam-field-requires-5
-beam-field-requires-5 c κs = search needs
-
-slot-holds-requires-5 : tie.Need-slot-holds-requires-5
-slot-holds-requires-5 c κs = search needs
-
-beam-field-requires-6 : tie.Need-beam-field-requires-6
-beam-field-requires-6 c κs = search needs
-
-slot-holds-requires-6 : tie.Need-slot-holds-requires-6
-slot-holds-requires-6 c κs = search needs
-
-beam-field-requires-7 : tie.Need-beam-field-requires-7
-beam-field-requires-7 c κs = search needs
-
-slot-holds-requires-7 : tie.Need-slot-holds-requires-7
-slot-holds-requires-7 c κs = search needs
-
-beam-field-requires-8 : tie.Need-beam-field-requires-8
-beam-field-requires-8 c κs = search needs
-
-slot-holds-requires-8 : tie.Need-slot-holds-requires-8
-slot-holds-requires-8 c κs = search needs
-
-beam-field-requires-9 : tie.Need-beam-field-requires-9
-beam-field-requires-9 c κs = search needs
-
-slot-holds-requires-9 : tie.Need-slot-holds-requires-9
-slot-holds-requires-9 c κs = search needs
-
-both-requires : tie.Need-both-requires
-both-requires c κs = search needs
-
-both-requires-2 : tie.Need-both-requires-2
-both-requires-2 c κs = search needs
-
-both-requires-3 : tie.Need-both-requires-3
-both-requires-3 c κs = search needs
-
-both-requires-4 : tie.Need-both-requires-4
-both-requires-4 c κs = search needs
-
-both-requires-5 : tie.Need-both-requires-5
-both-requires-5 c κs = search needs
-
-both-requires-6 : tie.Need-both-requires-6
-both-requires-6 c κs = search needs
-
-both-requires-7 : tie.Need-both-requires-7
-both-requires-7 c κs = search needs
-
-both-requires-8 : tie.Need-both-requires-8
-both-requires-8 c κs = search needs
-
 returns : tie.Need-returns
 returns c =
     let b7 = c .before in
@@ -114,30 +36,30 @@ pub beam-section-holds-spec : {M : Type 1} → statement M
 beam-section-holds-spec =
     tie.close
     (tie.spec
-    beam-field-requires
-    slot-holds-requires
-    beam-field-requires-2
-    slot-holds-requires-2
-    beam-field-requires-3
-    slot-holds-requires-3
-    beam-field-requires-4
-    slot-holds-requires-4
-    beam-field-requires-5
-    slot-holds-requires-5
-    beam-field-requires-6
-    slot-holds-requires-6
-    beam-field-requires-7
-    slot-holds-requires-7
-    beam-field-requires-8
-    slot-holds-requires-8
-    beam-field-requires-9
-    slot-holds-requires-9
-    both-requires
-    both-requires-2
-    both-requires-3
-    both-requires-4
-    both-requires-5
-    both-requires-6
-    both-requires-7
-    both-requires-8
+    (λ c κs. search needs)
+    (λ c κs. search needs)
+    (λ c κs. search needs)
+    (λ c κs. search needs)
+    (λ c κs. search needs)
+    (λ c κs. search needs)
+    (λ c κs. search needs)
+    (λ c κs. search needs)
+    (λ c κs. search needs)
+    (λ c κs. search needs)
+    (λ c κs. search needs)
+    (λ c κs. search needs)
+    (λ c κs. search needs)
+    (λ c κs. search needs)
+    (λ c κs. search needs)
+    (λ c κs. search needs)
+    (λ c κs. search needs)
+    (λ c κs. search needs)
+    (λ c κs. search needs)
+    (λ c κs. search needs)
+    (λ c κs. search needs)
+    (λ c κs. search needs)
+    (λ c κs. search needs)
+    (λ c κs. search needs)
+    (λ c κs. search needs)
+    (λ c κs. search needs)
     returns)

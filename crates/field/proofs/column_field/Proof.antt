@@ -20,7 +20,7 @@ group-field-requires c κs = place-within 5 8 _ (past-count (c .before)) (c .if1
 returns-9 : tie.Need-returns-9
 returns-9 c =
     c .group-field .ensures
-        ∙ in-middle (take 5 columnFields) (groups 4) (drop 13 columnFields) _ (past-count (c .before .before)) (c .before .if1 .taken)
+    ∙ in-middle (take 5 columnFields) (groups 4) (drop 13 columnFields) _ (past-count (c .before .before)) (c .before .if1 .taken)
 
 returns-10 : tie.Need-returns-10
 returns-10 c = rw (last-place 16 _ (none-from _ 13 3 _ (c .if1 .left) (c .before .match .rest)) (c .before .before .pre))

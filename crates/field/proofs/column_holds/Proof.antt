@@ -1,159 +1,72 @@
+-- `field::column_holds` meets its contract.
+use lib.ListN.{drop}
+use Rattle.field.specs.Fields.{groups, columnFields}
+use Rattle.field.proofs.Tables.{slot-then, slot-last, run-then}
 use borrow.Author.Needs.{needs}
 use Rattle.field.proofs.column_holds.Statement.{statement}
 use Rattle.field.proofs.column_holds.Tie as tie
-use Rattle.field.proofs.column_holds.Reads as reads
-use Rattle.field.proofs.column_holds.Lts as lts
-use Rattle.field.proofs.column_field.Reads as column-field-reads
-use Rattle.field.proofs.list_holds.Reads as list-holds-reads
-use Rattle.field.proofs.slot_holds.Reads as slot-holds-reads
-use Rattle.quantity.proofs.both.Reads as both-reads
 
--- src/lib.rt:336:20
-column-field-requires : tie.Need-column-field-requires
-column-field-requires c κs = search needs
-
--- src/lib.rt:336:9
-slot-holds-requires : tie.Need-slot-holds-requires
-slot-holds-requires c κs = search needs
-
--- src/lib.rt:338:24
-column-field-requires-2 : tie.Need-column-field-requires-2
-column-field-requires-2 c κs = search needs
-
--- src/lib.rt:338:13
-slot-holds-requires-2 : tie.Need-slot-holds-requires-2
-slot-holds-requires-2 c κs = search needs
-
--- src/lib.rt:340:28
-column-field-requires-3 : tie.Need-column-field-requires-3
-column-field-requires-3 c κs = search needs
-
--- src/lib.rt:340:17
-slot-holds-requires-3 : tie.Need-slot-holds-requires-3
-slot-holds-requires-3 c κs = search needs
-
--- src/lib.rt:342:32
-column-field-requires-4 : tie.Need-column-field-requires-4
-column-field-requires-4 c κs = search needs
-
--- src/lib.rt:342:21
-slot-holds-requires-4 : tie.Need-slot-holds-requires-4
-slot-holds-requires-4 c κs = search needs
-
--- src/lib.rt:344:36
-column-field-requires-5 : tie.Need-column-field-requires-5
-column-field-requires-5 c κs = search needs
-
--- src/lib.rt:344:25
-slot-holds-requires-5 : tie.Need-slot-holds-requires-5
-slot-holds-requires-5 c κs = search needs
-
--- src/lib.rt:346:29
-list-holds-requires : tie.Need-list-holds-requires
-list-holds-requires c κs = search needs
-
--- src/lib.rt:348:44
-column-field-requires-6 : tie.Need-column-field-requires-6
-column-field-requires-6 c κs = search needs
-
--- src/lib.rt:348:33
-slot-holds-requires-6 : tie.Need-slot-holds-requires-6
-slot-holds-requires-6 c κs = search needs
-
--- src/lib.rt:350:48
-column-field-requires-7 : tie.Need-column-field-requires-7
-column-field-requires-7 c κs = search needs
-
--- src/lib.rt:350:37
-slot-holds-requires-7 : tie.Need-slot-holds-requires-7
-slot-holds-requires-7 c κs = search needs
-
--- src/lib.rt:352:52
-column-field-requires-8 : tie.Need-column-field-requires-8
-column-field-requires-8 c κs = search needs
-
--- src/lib.rt:352:41
-slot-holds-requires-8 : tie.Need-slot-holds-requires-8
-slot-holds-requires-8 c κs = search needs
-
--- src/lib.rt:353:52
-column-field-requires-9 : tie.Need-column-field-requires-9
-column-field-requires-9 c κs = search needs
-
--- src/lib.rt:353:41
-slot-holds-requires-9 : tie.Need-slot-holds-requires-9
-slot-holds-requires-9 c κs = search needs
-
--- src/lib.rt:351:37
-both-requires : tie.Need-both-requires
-both-requires c κs = search needs
-
--- src/lib.rt:349:33
-both-requires-2 : tie.Need-both-requires-2
-both-requires-2 c κs = search needs
-
--- src/lib.rt:347:29
-both-requires-3 : tie.Need-both-requires-3
-both-requires-3 c κs = search needs
-
--- src/lib.rt:345:25
-both-requires-4 : tie.Need-both-requires-4
-both-requires-4 c κs = search needs
-
--- src/lib.rt:343:21
-both-requires-5 : tie.Need-both-requires-5
-both-requires-5 c κs = search needs
-
--- src/lib.rt:341:17
-both-requires-6 : tie.Need-both-requires-6
-both-requires-6 c κs = search needs
-
--- src/lib.rt:339:13
-both-requires-7 : tie.Need-both-requires-7
-both-requires-7 c κs = search needs
-
--- src/lib.rt:337:9
-both-requires-8 : tie.Need-both-requires-8
-both-requires-8 c κs = search needs
-
--- src/lib.rt:335:5
-both-requires-9 : tie.Need-both-requires-9
-both-requires-9 c κs = search needs
-
--- src/lib.rt:332:1
 returns : tie.Need-returns
-returns c = ?
+returns c =
+    let b8 = c .before in
+    let b7 = b8 .before in
+    let b6 = b7 .before in
+    let b5 = b6 .before in
+    let b4 = b5 .before in
+    let b3 = b4 .before in
+    let b2 = b3 .before in
+    let b1 = b2 .before in
+    let s9 = b1 .before in
+    let s8 = s9 .before .before in
+    let s7 = s8 .before .before in
+    let s6 = s7 .before .before in
+    let l = s6 .before .before in
+    let s5 = l .before in
+    let s4 = s5 .before .before in
+    let s3 = s4 .before .before in
+    let s2 = s3 .before .before in
+    let s1 = s2 .before .before in
+    slot-then _ _ (s1 .before .column-field .ensures) (s1 .slot-holds .ensures)
+    (slot-then _ _ (s2 .before .column-field2 .ensures) (s2 .slot-holds2 .ensures)
+    (slot-then _ _ (s3 .before .column-field3 .ensures) (s3 .slot-holds3 .ensures)
+    (slot-then _ _ (s4 .before .column-field4 .ensures) (s4 .slot-holds4 .ensures)
+    (slot-then _ _ (s5 .before .column-field5 .ensures) (s5 .slot-holds5 .ensures)
+    (run-then (groups 4) (drop 13 columnFields) 5 _ (l .list-holds .ensures)
+    (slot-then _ _ (s6 .before .column-field6 .ensures) (s6 .slot-holds6 .ensures)
+    (slot-then _ _ (s7 .before .column-field7 .ensures) (s7 .slot-holds7 .ensures)
+    (slot-then _ _ (s8 .before .column-field8 .ensures) (s8 .slot-holds8 .ensures)
+    (slot-last _ _ (s9 .before .column-field9 .ensures) (s9 .slot-holds9 .ensures)) (b1 .both .ensures)) (b2 .both2 .ensures)) (b3 .both3 .ensures)) (b4 .both4 .ensures)) (b5 .both5 .ensures)) (b6 .both6 .ensures)) (b7 .both7 .ensures)) (b8 .both8 .ensures)) (c .both9 .ensures)
 
 pub column-holds-spec : {M : Type 1} → statement M
 column-holds-spec =
     tie.close
     (tie.spec
-    column-field-requires
-    slot-holds-requires
-    column-field-requires-2
-    slot-holds-requires-2
-    column-field-requires-3
-    slot-holds-requires-3
-    column-field-requires-4
-    slot-holds-requires-4
-    column-field-requires-5
-    slot-holds-requires-5
-    list-holds-requires
-    column-field-requires-6
-    slot-holds-requires-6
-    column-field-requires-7
-    slot-holds-requires-7
-    column-field-requires-8
-    slot-holds-requires-8
-    column-field-requires-9
-    slot-holds-requires-9
-    both-requires
-    both-requires-2
-    both-requires-3
-    both-requires-4
-    both-requires-5
-    both-requires-6
-    both-requires-7
-    both-requires-8
-    both-requires-9
+    (λ c κs. search needs)
+    (λ c κs. search needs)
+    (λ c κs. search needs)
+    (λ c κs. search needs)
+    (λ c κs. search needs)
+    (λ c κs. search needs)
+    (λ c κs. search needs)
+    (λ c κs. search needs)
+    (λ c κs. search needs)
+    (λ c κs. search needs)
+    (λ c κs. search needs)
+    (λ c κs. search needs)
+    (λ c κs. search needs)
+    (λ c κs. search needs)
+    (λ c κs. search needs)
+    (λ c κs. search needs)
+    (λ c κs. search needs)
+    (λ c κs. search needs)
+    (λ c κs. search needs)
+    (λ c κs. search needs)
+    (λ c κs. search needs)
+    (λ c κs. search needs)
+    (λ c κs. search needs)
+    (λ c κs. search needs)
+    (λ c κs. search needs)
+    (λ c κs. search needs)
+    (λ c κs. search needs)
+    (λ c κs. search needs)
     returns)

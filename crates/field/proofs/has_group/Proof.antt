@@ -17,7 +17,7 @@ returns : tie.Need-returns
 returns c = search needs
 
 returns-2 : tie.Need-returns-2
-returns-2 c = rw (List·getD-eq-default (c .before .before .args .v .now) 0 (c .if1 .left)) (sym (le-ltb _ 0 zero-le))
+returns-2 c = rw (List·getD-eq-default (c .before .before .args .v .now) 0 (c .if1 .left)) (sym (le-ltb (c .before .before .args .place) 0 zero-le))
 
 pub has-group-spec : {M : Type 1} → statement M
 has-group-spec = tie.close (tie.spec mul-result shared-slice-read-result returns returns-2)

@@ -1,101 +1,22 @@
 -- `field::list_holds` meets its contract.
+use Prim.Native.Nat.{ℕ, _+_}
+use mathlib.Core.Path.{_≡_, _∙_}
+use mathlib.Core.Bool.{true, _&&_}
+use mathlib.Core.List.{List}
+use native.Mathlib.Nat.{add-assoc}
+use Rattle.field.specs.declared.Domain.the-variants.{GroupDiameter, GroupBars}
+use Rattle.field.specs.Domain.{fieldHolds}
+use Rattle.field.specs.Fields.{groups, fieldsHold}
 use Rattle.field.proofs.Tables.{slot-then, slot-last}
 use borrow.Author.Needs.{needs}
 use Rattle.field.proofs.list_holds.Statement.{statement}
 use Rattle.field.proofs.list_holds.Tie as tie
 
-add-i : tie.Need-add-i
-add-i c = search needs
-
-group-field-requires : tie.Need-group-field-requires
-group-field-requires c κs = search needs
-
-slot-holds-requires : tie.Need-slot-holds-requires
-slot-holds-requires c κs = search needs
-
-group-field-requires-2 : tie.Need-group-field-requires-2
-group-field-requires-2 c κs = search needs
-
-add-slot-holds : tie.Need-add-slot-holds
-add-slot-holds c = search needs
-
-slot-holds-requires-2 : tie.Need-slot-holds-requires-2
-slot-holds-requires-2 c κs = search needs
-
-group-field-requires-3 : tie.Need-group-field-requires-3
-group-field-requires-3 c κs = search needs
-
-add-slot-holds-2 : tie.Need-add-slot-holds-2
-add-slot-holds-2 c = search needs
-
-slot-holds-requires-3 : tie.Need-slot-holds-requires-3
-slot-holds-requires-3 c κs = search needs
-
-group-field-requires-4 : tie.Need-group-field-requires-4
-group-field-requires-4 c κs = search needs
-
-add-slot-holds-3 : tie.Need-add-slot-holds-3
-add-slot-holds-3 c = search needs
-
-slot-holds-requires-4 : tie.Need-slot-holds-requires-4
-slot-holds-requires-4 c κs = search needs
-
-group-field-requires-5 : tie.Need-group-field-requires-5
-group-field-requires-5 c κs = search needs
-
-add-slot-holds-4 : tie.Need-add-slot-holds-4
-add-slot-holds-4 c = search needs
-
-slot-holds-requires-5 : tie.Need-slot-holds-requires-5
-slot-holds-requires-5 c κs = search needs
-
-group-field-requires-6 : tie.Need-group-field-requires-6
-group-field-requires-6 c κs = search needs
-
-add-slot-holds-5 : tie.Need-add-slot-holds-5
-add-slot-holds-5 c = search needs
-
-slot-holds-requires-6 : tie.Need-slot-holds-requires-6
-slot-holds-requires-6 c κs = search needs
-
-group-field-requires-7 : tie.Need-group-field-requires-7
-group-field-requires-7 c κs = search needs
-
-add-slot-holds-6 : tie.Need-add-slot-holds-6
-add-slot-holds-6 c = search needs
-
-slot-holds-requires-7 : tie.Need-slot-holds-requires-7
-slot-holds-requires-7 c κs = search needs
-
-group-field-requires-8 : tie.Need-group-field-requires-8
-group-field-requires-8 c κs = search needs
-
-add-slot-holds-7 : tie.Need-add-slot-holds-7
-add-slot-holds-7 c = search needs
-
-slot-holds-requires-8 : tie.Need-slot-holds-requires-8
-slot-holds-requires-8 c κs = search needs
-
-both-requires : tie.Need-both-requires
-both-requires c κs = search needs
-
-both-requires-2 : tie.Need-both-requires-2
-both-requires-2 c κs = search needs
-
-both-requires-3 : tie.Need-both-requires-3
-both-requires-3 c κs = search needs
-
-both-requires-4 : tie.Need-both-requires-4
-both-requires-4 c κs = search needs
-
-both-requires-5 : tie.Need-both-requires-5
-both-requires-5 c κs = search needs
-
-both-requires-6 : tie.Need-both-requires-6
-both-requires-6 c κs = search needs
-
-both-requires-7 : tie.Need-both-requires-7
-both-requires-7 c κs = search needs
+-- the slots as the code counts them
+in-order : (k i : ℕ) (v : List ℕ)
+    → (fieldHolds (GroupDiameter k 0) i v && (fieldHolds (GroupBars k 0) (i + 1) v && (fieldHolds (GroupDiameter k 1) (i + 2) v && (fieldHolds (GroupBars k 1) (i + 3) v && (fieldHolds (GroupDiameter k 2) (i + 4) v && (fieldHolds (GroupBars k 2) (i + 5) v && (fieldHolds (GroupDiameter k 3) (i + 6) v && (fieldHolds (GroupBars k 3) (i + 7) v && true))))))))
+    ≡ fieldsHold (groups k) i v
+in-order k i v = simp add-assoc
 
 returns : tie.Need-returns
 returns c =
@@ -121,40 +42,41 @@ returns c =
     (slot-then _ _ (s6 .before .group-field6 .ensures) (s6 .slot-holds6 .ensures)
     (slot-then _ _ (s7 .before .group-field7 .ensures) (s7 .slot-holds7 .ensures)
     (slot-last _ _ (s8 .before .group-field8 .ensures) (s8 .slot-holds8 .ensures)) (b1 .both .ensures)) (b2 .both2 .ensures)) (b3 .both3 .ensures)) (b4 .both4 .ensures)) (b5 .both5 .ensures)) (b6 .both6 .ensures)) (c .both7 .ensures)
+    ∙ in-order (s1 .before .before .args .k) (s1 .before .before .args .k + 1) (s1 .before .before .args .v .now)
 
 pub list-holds-spec : {M : Type 1} → statement M
 list-holds-spec =
     tie.close
     (tie.spec
-    add-i
-    group-field-requires
-    slot-holds-requires
-    group-field-requires-2
-    add-slot-holds
-    slot-holds-requires-2
-    group-field-requires-3
-    add-slot-holds-2
-    slot-holds-requires-3
-    group-field-requires-4
-    add-slot-holds-3
-    slot-holds-requires-4
-    group-field-requires-5
-    add-slot-holds-4
-    slot-holds-requires-5
-    group-field-requires-6
-    add-slot-holds-5
-    slot-holds-requires-6
-    group-field-requires-7
-    add-slot-holds-6
-    slot-holds-requires-7
-    group-field-requires-8
-    add-slot-holds-7
-    slot-holds-requires-8
-    both-requires
-    both-requires-2
-    both-requires-3
-    both-requires-4
-    both-requires-5
-    both-requires-6
-    both-requires-7
+    (λ c. search needs)
+    (λ c κs. search needs)
+    (λ c κs. search needs)
+    (λ c κs. search needs)
+    (λ c. search needs)
+    (λ c κs. search needs)
+    (λ c κs. search needs)
+    (λ c. search needs)
+    (λ c κs. search needs)
+    (λ c κs. search needs)
+    (λ c. search needs)
+    (λ c κs. search needs)
+    (λ c κs. search needs)
+    (λ c. search needs)
+    (λ c κs. search needs)
+    (λ c κs. search needs)
+    (λ c. search needs)
+    (λ c κs. search needs)
+    (λ c κs. search needs)
+    (λ c. search needs)
+    (λ c κs. search needs)
+    (λ c κs. search needs)
+    (λ c. search needs)
+    (λ c κs. search needs)
+    (λ c κs. search needs)
+    (λ c κs. search needs)
+    (λ c κs. search needs)
+    (λ c κs. search needs)
+    (λ c κs. search needs)
+    (λ c κs. search needs)
+    (λ c κs. search needs)
     returns)

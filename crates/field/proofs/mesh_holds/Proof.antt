@@ -4,102 +4,6 @@ use borrow.Author.Needs.{needs}
 use Rattle.field.proofs.mesh_holds.Statement.{statement}
 use Rattle.field.proofs.mesh_holds.Tie as tie
 
-mesh-field-requires : tie.Need-mesh-field-requires
-mesh-field-requires c κs = search needs
-
-slot-holds-requires : tie.Need-slot-holds-requires
-slot-holds-requires c κs = search needs
-
-mesh-field-requires-2 : tie.Need-mesh-field-requires-2
-mesh-field-requires-2 c κs = search needs
-
-slot-holds-requires-2 : tie.Need-slot-holds-requires-2
-slot-holds-requires-2 c κs = search needs
-
-mesh-field-requires-3 : tie.Need-mesh-field-requires-3
-mesh-field-requires-3 c κs = search needs
-
-slot-holds-requires-3 : tie.Need-slot-holds-requires-3
-slot-holds-requires-3 c κs = search needs
-
-mesh-field-requires-4 : tie.Need-mesh-field-requires-4
-mesh-field-requires-4 c κs = search needs
-
-slot-holds-requires-4 : tie.Need-slot-holds-requires-4
-slot-holds-requires-4 c κs = search needs
-
-mesh-field-requires-5 : tie.Need-mesh-field-requires-5
-mesh-field-requires-5 c κs = search needs
-
-slot-holds-requires-5 : tie.Need-slot-holds-requires-5
-slot-holds-requires-5 c κs = search needs
-
-mesh-field-requires-6 : tie.Need-mesh-field-requires-6
-mesh-field-requires-6 c κs = search needs
-
-slot-holds-requires-6 : tie.Need-slot-holds-requires-6
-slot-holds-requires-6 c κs = search needs
-
-mesh-field-requires-7 : tie.Need-mesh-field-requires-7
-mesh-field-requires-7 c κs = search needs
-
-slot-holds-requires-7 : tie.Need-slot-holds-requires-7
-slot-holds-requires-7 c κs = search needs
-
-mesh-field-requires-8 : tie.Need-mesh-field-requires-8
-mesh-field-requires-8 c κs = search needs
-
-slot-holds-requires-8 : tie.Need-slot-holds-requires-8
-slot-holds-requires-8 c κs = search needs
-
-mesh-field-requires-9 : tie.Need-mesh-field-requires-9
-mesh-field-requires-9 c κs = search needs
-
-slot-holds-requires-9 : tie.Need-slot-holds-requires-9
-slot-holds-requires-9 c κs = search needs
-
-mesh-field-requires-10 : tie.Need-mesh-field-requires-10
-mesh-field-requires-10 c κs = search needs
-
-slot-holds-requires-10 : tie.Need-slot-holds-requires-10
-slot-holds-requires-10 c κs = search needs
-
-mesh-field-requires-11 : tie.Need-mesh-field-requires-11
-mesh-field-requires-11 c κs = search needs
-
-slot-holds-requires-11 : tie.Need-slot-holds-requires-11
-slot-holds-requires-11 c κs = search needs
-
-both-requires : tie.Need-both-requires
-both-requires c κs = search needs
-
-both-requires-2 : tie.Need-both-requires-2
-both-requires-2 c κs = search needs
-
-both-requires-3 : tie.Need-both-requires-3
-both-requires-3 c κs = search needs
-
-both-requires-4 : tie.Need-both-requires-4
-both-requires-4 c κs = search needs
-
-both-requires-5 : tie.Need-both-requires-5
-both-requires-5 c κs = search needs
-
-both-requires-6 : tie.Need-both-requires-6
-both-requires-6 c κs = search needs
-
-both-requires-7 : tie.Need-both-requires-7
-both-requires-7 c κs = search needs
-
-both-requires-8 : tie.Need-both-requires-8
-both-requires-8 c κs = search needs
-
-both-requires-9 : tie.Need-both-requires-9
-both-requires-9 c κs = search needs
-
-both-requires-10 : tie.Need-both-requires-10
-both-requires-10 c κs = search needs
-
 returns : tie.Need-returns
 returns c =
     let b9 = c .before in
@@ -138,36 +42,36 @@ pub mesh-holds-spec : {M : Type 1} → statement M
 mesh-holds-spec =
     tie.close
     (tie.spec
-    mesh-field-requires
-    slot-holds-requires
-    mesh-field-requires-2
-    slot-holds-requires-2
-    mesh-field-requires-3
-    slot-holds-requires-3
-    mesh-field-requires-4
-    slot-holds-requires-4
-    mesh-field-requires-5
-    slot-holds-requires-5
-    mesh-field-requires-6
-    slot-holds-requires-6
-    mesh-field-requires-7
-    slot-holds-requires-7
-    mesh-field-requires-8
-    slot-holds-requires-8
-    mesh-field-requires-9
-    slot-holds-requires-9
-    mesh-field-requires-10
-    slot-holds-requires-10
-    mesh-field-requires-11
-    slot-holds-requires-11
-    both-requires
-    both-requires-2
-    both-requires-3
-    both-requires-4
-    both-requires-5
-    both-requires-6
-    both-requires-7
-    both-requires-8
-    both-requires-9
-    both-requires-10
+    (λ c κs. search needs)
+    (λ c κs. search needs)
+    (λ c κs. search needs)
+    (λ c κs. search needs)
+    (λ c κs. search needs)
+    (λ c κs. search needs)
+    (λ c κs. search needs)
+    (λ c κs. search needs)
+    (λ c κs. search needs)
+    (λ c κs. search needs)
+    (λ c κs. search needs)
+    (λ c κs. search needs)
+    (λ c κs. search needs)
+    (λ c κs. search needs)
+    (λ c κs. search needs)
+    (λ c κs. search needs)
+    (λ c κs. search needs)
+    (λ c κs. search needs)
+    (λ c κs. search needs)
+    (λ c κs. search needs)
+    (λ c κs. search needs)
+    (λ c κs. search needs)
+    (λ c κs. search needs)
+    (λ c κs. search needs)
+    (λ c κs. search needs)
+    (λ c κs. search needs)
+    (λ c κs. search needs)
+    (λ c κs. search needs)
+    (λ c κs. search needs)
+    (λ c κs. search needs)
+    (λ c κs. search needs)
+    (λ c κs. search needs)
     returns)
