@@ -1,80 +1,21 @@
--- The code's columns hold the tables of the kinds, and the steps of question 7 along a table.
-use Prim.Native.Nat.{ℕ, zero, suc, _+_, _≤_, _<_}
+-- What is known of a kind, a table's fields by slot, and question 7 of tables one after the other.
+use Prim.Native.Nat.{ℕ, zero, suc, _+_, _-_, _≤_, _<_}
 use mathlib.Core.Path.{_≡_, refl, sym, ap, _∙_}
-use mathlib.Core.Bool.{Bool, true, false, _&&_}
-use mathlib.Core.List.{List, [], _∷_, map}
-use native.Mathlib.Nat.{not-suc-le-zero, zero-add, add-assoc}
+use mathlib.Core.Bool.{Bool, true, _&&_, and-true, and-assoc}
+use mathlib.Core.List.{List, [], _∷_, _++_}
+use native.Mathlib.Nat.{add-zero}
 use native.Mathlib.Numerals.{add-one}
 use native.Mathlib.Omega.{arith}
-use lib.Dec.{leb, ltb, eqb, eqb→eq, leb→le}
-use lib.ListN.{length, getD, drop, length-append, drop-of-length-le, List·getD-append, List·getD-map}
+use lib.Dec.{leb, leb→le}
+use lib.ListN.{length, getD, drop, List·getD-append}
 use lib.Seq.{drop-cons, getD-append-add}
-use borrow.Author.Tests.{leb-true, ne-eqb}
-use Rattle.quantity.proofs.Choice.{if-case}
+use borrow.Author.Tests.{leb-true}
 use Rattle.standard.proofs.Table.{every-at}
 use Rattle.member.proofs.Questions.{both-true}
 use Rattle.field.specs.declared.Domain.{Domain}
-use Rattle.field.specs.declared.Domain.the-variants.{Range, ZeroOr, Bar, Grade, Steel, LinkSteel, GroupDiameter, GroupBars}
-use Rattle.field.specs.Domain.{between, holds, asked, fieldHolds}
+use Rattle.field.specs.declared.Domain.the-variants.{Grade}
+use Rattle.field.specs.Domain.{between, fieldHolds}
 use Rattle.field.specs.Fields.{kinds, fieldsOf, known, fieldsHold}
-use Rattle.field.specs.Columns.{decode, rows, startOf, firstRow}
-
--- ---- A row.
-
-abbrev pub sortOf : Domain → ℕ
-sortOf (Range a b) = 0
-sortOf (ZeroOr a b) = 1
-sortOf (Bar a b) = 2
-sortOf Grade = 3
-sortOf Steel = 4
-sortOf LinkSteel = 5
-sortOf (GroupDiameter a b) = 6
-sortOf (GroupBars a b) = 7
-
-abbrev pub firstOf : Domain → ℕ
-firstOf (Range a b) = a
-firstOf (ZeroOr a b) = a
-firstOf (Bar a b) = a
-firstOf Grade = 0
-firstOf Steel = 0
-firstOf LinkSteel = 0
-firstOf (GroupDiameter a b) = a
-firstOf (GroupBars a b) = a
-
-abbrev pub secondOf : Domain → ℕ
-secondOf (Range a b) = b
-secondOf (ZeroOr a b) = b
-secondOf (Bar a b) = b
-secondOf Grade = 0
-secondOf Steel = 0
-secondOf LinkSteel = 0
-secondOf (GroupDiameter a b) = b
-secondOf (GroupBars a b) = b
-
-decoded : (d : Domain) → decode (sortOf d) (firstOf d) (secondOf d) ≡ d
-decoded (Range a b) = refl
-decoded (ZeroOr a b) = refl
-decoded (Bar a b) = refl
-decoded Grade = refl
-decoded Steel = refl
-decoded LinkSteel = refl
-decoded (GroupDiameter a b) = refl
-decoded (GroupBars a b) = refl
-
-abbrev pub sorts : List ℕ
-sorts = map sortOf (rows kinds)
-
-abbrev pub firsts : List ℕ
-firsts = map firstOf (rows kinds)
-
-abbrev pub seconds : List ℕ
-seconds = map secondOf (rows kinds)
-
--- the columns hold the rows
-row-decoded : (row : ℕ) → decode (getD sorts row 0) (getD firsts row 0) (getD seconds row 0) ≡ getD (rows kinds) row (Range 0 0)
-row-decoded row =
-    rw (List·getD-map sortOf (rows kinds) row (Range 0 0), List·getD-map firstOf (rows kinds) row (Range 0 0), List·getD-map secondOf (rows kinds) row (Range 0 0))
-    (decoded (getD (rows kinds) row (Range 0 0)))
 
 -- ---- A kind.
 
@@ -85,92 +26,67 @@ pub known-below : (kind : ℕ) → known kind ≡ true → kind < 4
 unfolding known
 known-below kind e = omega (arith, in-between {lo = 1} {hi = 3} {x = kind} e)
 
-pub count-of : (kind : ℕ) → getD (map length kinds) kind 0 ≡ length (fieldsOf kind)
-unfolding fieldsOf
-count-of kind = List·getD-map length kinds kind []
+-- a known kind that is neither a beam nor a column is a mesh
+pub known-mesh : (kind : ℕ) → known kind ≡ true → (kind ≡ 1 → ⊥) → (kind ≡ 2 → ⊥) → kind ≡ 3
+unfolding known
+known-mesh kind e one two = omega (arith, in-between {lo = 1} {hi = 3} {x = kind} e, one, two)
 
-rows-at : (ts : List (List Domain)) (k i : ℕ) → i < length (getD ts k [])
-    → (startOf ts k + i < length (rows ts)) × (getD (rows ts) (startOf ts k + i) (Range 0 0) ≡ getD (getD ts k []) i (Range 0 0))
-rows-at [] k i h = absurd (not-suc-le-zero h)
-rows-at (t ∷ ts) zero i h = rw (zero-add i) (simp length-append (omega arith), List·getD-append t (rows ts) (Range 0 0) i h)
-rows-at (t ∷ ts) (suc k) i h =
-    let r = rows-at ts k i h in
-    rw (add-assoc (length t) (startOf ts k) i)
-    (simp length-append (omega arith), getD-append-add t (rows ts) (startOf ts k + i) (Range 0 0) ∙ r .1)
+few : ℕ → List Domain → Bool
+few k fs = leb (length fs) 40
 
--- the first rows as the code has them
-abbrev starts : List ℕ
-starts = 0 ∷ 0 ∷ 37 ∷ 54 ∷ []
+-- a member's fields fit the slots
+pub fields-fit : (kind : ℕ) → known kind ≡ true → length (fieldsOf kind) ≤ 40
+unfolding few fieldsOf
+fields-fit kind e = leb→le (length (getD kinds kind [])) 40 (every-at few [] kinds tt kind (known-below kind e))
 
-started : ℕ → ℕ → Bool
-started k x = eqb x (startOf kinds k)
+-- ---- A field by its slot.
 
-pub first-row-of : (kind : ℕ) → known kind ≡ true → getD starts kind 0 ≡ firstRow kind
-unfolding started firstRow
-first-row-of kind e = eqb→eq (getD starts kind 0) (startOf kinds kind) (every-at started 0 starts tt kind (known-below kind e))
+-- i is none of the n places from a on, beside what T says
+abbrev pub NoneFrom : Type 0 → ℕ → ℕ → ℕ → Type 0
+NoneFrom T a zero i = T
+NoneFrom T a (suc n) i = NoneFrom T a n i × (i ≡ a + n → ⊥)
 
--- field i of a kind, as the columns have it
-pub row-of : (kind start i : ℕ) → start ≡ firstRow kind → i < length (fieldsOf kind)
-    → decode (getD sorts (start + i) 0) (getD firsts (start + i) 0) (getD seconds (start + i) 0) ≡ getD (fieldsOf kind) i (Range 0 0)
-unfolding fieldsOf firstRow
-row-of kind start i e h = row-decoded (start + i) ∙ rw e (rows-at kinds kind i h .1)
+pub none-from : (T : Type 0) (a n i : ℕ) → a ≤ i → NoneFrom T a n i → a + n ≤ i
+none-from T a zero i l h = omega arith
+none-from T a (suc n) i l h = omega (arith, none-from T a n i l (h .0), h .1)
 
-few : ℕ → ℕ → Bool
-few k n = leb n 40
+pub last-place : (n i : ℕ) → n ≤ i → i < suc n → i ≡ n
+last-place n i l h = omega arith
 
-within : ℕ → ℕ → Bool
-within k n = leb (startOf kinds k + n) 65
+pub place-within : (a n i : ℕ) → a ≤ i → i < a + n → i - a < n
+place-within a n i l h = omega arith
 
--- a member's fields fit the slots, and their rows the columns
-pub fields-fit : (kind : ℕ) → known kind ≡ true → (length (fieldsOf kind) ≤ 40) × (firstRow kind + length (fieldsOf kind) ≤ 65)
-unfolding few within firstRow
-fields-fit kind e =
-    rw (← count-of kind) (
-      leb→le (getD (map length kinds) kind 0) 40 (every-at few 0 (map length kinds) tt kind (known-below kind e)),
-      leb→le (startOf kinds kind + getD (map length kinds) kind 0) 65 (every-at within 0 (map length kinds) tt kind (known-below kind e)),
-    )
+pub drop-one : (fs : List Domain) (i : ℕ) → i < length fs → drop i fs ≡ getD fs i Grade ∷ drop (i + 1) fs
+drop-one fs i h = drop-cons fs i Grade h ∙ ap (λ (n : ℕ). getD fs i Grade ∷ drop n fs) (sym (add-one i))
 
--- ---- Question 7, field by field.
+-- a field of the middle one of three tables
+pub in-middle : (xs ys zs : List Domain) (i : ℕ) → length xs ≤ i → i < length xs + length ys
+    → getD ys (i - length xs) Grade ≡ getD (xs ++ (ys ++ zs)) i Grade
+in-middle xs ys zs i l h =
+    let e : length xs + (i - length xs) ≡ i = omega arith in
+    sym (List·getD-append ys zs Grade (i - length xs) (omega arith)) ∙ sym (getD-append-add xs (ys ++ zs) (i - length xs) Grade)
+    ∙ ap (λ (n : ℕ). getD (xs ++ (ys ++ zs)) n Grade) e
 
-pub drop-one : (fs : List Domain) (i : ℕ) → i < length fs → drop i fs ≡ getD fs i (Range 0 0) ∷ drop (i + 1) fs
-drop-one fs i h = drop-cons fs i (Range 0 0) h ∙ ap (λ (n : ℕ). getD fs i (Range 0 0) ∷ drop n fs) (sym (add-one i))
+-- ---- Question 7, as the code joins its parts.
 
-pub fields-end : (fs : List Domain) (i : ℕ) (v : List ℕ) → length fs ≤ i → fieldsHold (drop i fs) i v ≡ true
-fields-end fs i v h = rw (drop-of-length-le fs h)
+holds-append : (xs ys : List Domain) (i : ℕ) (v : List ℕ) → fieldsHold (xs ++ ys) i v ≡ (fieldsHold xs i v && fieldsHold ys (i + length xs) v)
+holds-append [] ys i v = rw (add-zero i)
+holds-append (x ∷ xs) ys i v =
+    let e : i + 1 + length xs ≡ i + length (x ∷ xs) = omega arith in
+    rw (holds-append xs ys (i + 1) v, e, and-assoc)
 
-module _ (fs : List Domain) (i : ℕ) (v : List ℕ) (h : i < length fs) (d : Domain) (is : d ≡ getD fs i (Range 0 0)) where
-  fields-step : fieldsHold (drop i fs) i v ≡ (fieldHolds d i v && fieldsHold (drop (i + 1) fs) (i + 1) v)
-  fields-step = ap (λ (l : List Domain). fieldsHold l i v) (drop-one fs i h) ∙ rw (← is)
+joined : {a b s t r : Bool} → s ≡ a → t ≡ b → r ≡ (s && t) → r ≡ (a && b)
+joined e f g = g ∙ rw (e, f)
 
-  pub field-absent : asked d v ≡ false → fieldsHold (drop i fs) i v ≡ fieldsHold (drop (i + 1) fs) (i + 1) v
-  unfolding fieldHolds
-  field-absent a = fields-step ∙ rw a
+-- a run of fields, and those after it
+pub run-then : (xs ys : List Domain) (i : ℕ) (v : List ℕ) {s t r : Bool} → s ≡ fieldsHold xs i v → t ≡ fieldsHold ys (i + length xs) v → r ≡ (s && t)
+    → r ≡ fieldsHold (xs ++ ys) i v
+run-then xs ys i v e f g = joined e f g ∙ sym (holds-append xs ys i v)
 
-  pub field-inside : asked d v ≡ true → holds d (getD v i 0) ≡ true → fieldsHold (drop i fs) i v ≡ fieldsHold (drop (i + 1) fs) (i + 1) v
-  unfolding fieldHolds
-  field-inside a e = fields-step ∙ rw (a, e)
+-- one field, and what those after it come to; the last
+module _ {d x : Domain} {s : Bool} (i : ℕ) (v : List ℕ) (is : d ≡ x) (e : s ≡ fieldHolds d i v) where
+  pub slot-then : {t b r : Bool} → t ≡ b → r ≡ (s && t) → r ≡ (fieldHolds x i v && b)
+  slot-then f g = joined (rw is at e) f g
 
-  pub field-outside : asked d v ≡ true → holds d (getD v i 0) ≡ false → fieldsHold (drop i fs) i v ≡ false
-  unfolding fieldHolds
-  field-outside a e = fields-step ∙ rw (a, e)
-
--- ---- A domain as the code has it: sorts 6 and 7 are the groups'.
-
-pub asked-group : (sort a b : ℕ) (v : List ℕ) → 6 ≤ sort → asked (decode sort a b) v ≡ ltb b (getD v a 0)
-unfolding asked
-asked-group sort a b v h =
-    simp (above 0 (omega arith), above 1 (omega arith), above 2 (omega arith), above 3 (omega arith), above 4 (omega arith), above 5 (omega arith))
-    (if-case (λ (d : Domain). asked d v ≡ ltb b (getD v a 0)) (eqb sort 6) (GroupDiameter a b) (GroupBars a b) (λ _. refl) (λ _. refl))
-  where
-    above : (k : ℕ) → k < sort → eqb sort k ≡ false
-    above k l = ne-eqb sort k (λ e. omega arith)
-
-pub asked-other : (sort a b : ℕ) (v : List ℕ) → sort < 6 → asked (decode sort a b) v ≡ true
-unfolding asked
-asked-other zero a b v h = refl
-asked-other (suc zero) a b v h = refl
-asked-other (suc (suc zero)) a b v h = refl
-asked-other (suc (suc (suc zero))) a b v h = refl
-asked-other (suc (suc (suc (suc zero)))) a b v h = refl
-asked-other (suc (suc (suc (suc (suc zero))))) a b v h = refl
-asked-other (suc (suc (suc (suc (suc (suc n)))))) a b v h = absurd (omega arith)
+  pub slot-last : s ≡ (fieldHolds x i v && true)
+  slot-last = rw and-true (rw is at e)

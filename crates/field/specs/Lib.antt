@@ -1,3 +1,2 @@
 pub mod Domain
 pub mod Fields
-pub mod Columns

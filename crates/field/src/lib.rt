@@ -68,8 +68,13 @@ pub fn domain_holds(d: Domain, x: u32) -> bool
 fn has_group(v: &[u32; 40], count: u32, place: u32) -> bool
     ensures { λ r. ⌜ r ≡ ltb place (getD (now (v .entry)) count 0) ⌝ }
 {
+    let slots: &[u32] = v;
     let i = count as usize;
-    if i < 40 { place < v[i] } else { false }
+    if i < slots.len() {
+        place < slots[i]
+    } else {
+        false
+    }
 }
 
 // Whether the field is there: a group past its count is not.
