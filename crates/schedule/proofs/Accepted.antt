@@ -1,6 +1,6 @@
 -- What an accepted schedule says: how it was read, and that each of its members is accepted.
 use Prim.Native.Nat.{ℕ, zero, suc, _+_, _≤_, _<_}
-use mathlib.Core.Path.{_≡_, refl, ap, _∙_}
+use mathlib.Core.Path.{_≡_, refl, sym, ap, _∙_}
 use mathlib.Core.Bool.{Bool, true, false}
 use mathlib.Core.List.{List, []}
 use native.Mathlib.Omega.{arith}
@@ -9,7 +9,8 @@ use lib.ListN.{length}
 use borrow.Author.Tests.{leb-true, ltb-true}
 use Rattle.question.specs.declared.Question.{Question}
 use Rattle.question.specs.declared.Question.the-variants.{Size, Count, Mark, Kind, Trailing}
-use Rattle.number.specs.declared.Number.the-variants.{Value}
+use Rattle.number.specs.declared.Number.{Number}
+use Rattle.number.specs.declared.Number.the-variants.{Value, Refused}
 use Rattle.number.specs.Number.{numberAt}
 use Rattle.member.specs.Member.{Member}
 use Rattle.member.specs.Accepted.{AcceptedMember, AcceptedMembers}
@@ -21,9 +22,11 @@ use Rattle.built.specs.declared.Verdict.the-variants as verdicts
 use Rattle.built.specs.Slots.{memberOf}
 use Rattle.built.specs.Verdict.{markInRange, memberVerdict}
 use Rattle.built.proofs.Accepted.{accepted-member}
-use Rattle.schedule.specs.Reading.{Reading, got, no, Placed, placed, andThen, ask, passed, refusal, named}
+use Rattle.schedule.specs.Reading.{Reading, got, no, Placed, placed, andThen, ask, passed, refusal, named, Got}
 use Rattle.schedule.specs.Schedule.{empty, checked, fields, whole, markRises, markAt, kindAt, member, members, schedule}
+use Rattle.schedule.specs.Taken.{taken, tookOf}
 use Rattle.schedule.proofs.Held.{on-checked, fields-held}
+use Rattle.schedule.proofs.Taken.{fields-taken, took-got}
 use Rattle.schedule.proofs.Members.{first-read, members-length, passes}
 
 -- ---- Steps taken apart.
@@ -72,6 +75,126 @@ member-was s p before b next e =
     (passes Kind known s (m .value .next) (k .value .value) (k .value .next) (k .was)) (k .then) in
     record { accepted = w .0; above = rw (w .1) (ltb-true _ _ (t .1)) }
 
+number-was : (q : Question) (test : ℕ → Bool) (s : List ℕ) (p x next : ℕ) → checked q test s p ≡ got (placed x next) → numberAt s p ≡ Value x next
+number-was q test s p x next =
+    on-checked (λ o. o ≡ got (placed x next) → numberAt s p ≡ Value x next) q test s p
+    (λ y after n _ e.
+    let same : placed y after ≡ placed x next = cc in
+    let v : y ≡ x = ap (λ (r : Placed ℕ). r .value) same in
+    let f : after ≡ next = ap (λ (r : Placed ℕ). r .next) same in
+    rw (← v, ← f) n)
+    (λ r e. absurd (no-got e))
+
+pub record WasGot {N A : Type 0} (o : Reading N A) : Type 0 where
+  pub value : A
+  pub was : o ≡ got value
+
+pub got-was : {N A : Type 0} (o : Reading N A) → Got o → WasGot o
+unfolding Got
+got-was (got a) h = record { value = a; was = refl }
+got-was (no q) h = absurd h
+
+-- How an accepted member was read.
+pub record MemberParts (s : List ℕ) (p : ℕ) (x : Placed Built) : Type 0 where
+  pub mark : ℕ
+  pub after-mark : ℕ
+  pub kind : ℕ
+  pub after-kind : ℕ
+  pub slots : List ℕ
+  pub mark-is : numberAt s p ≡ Value mark after-mark
+  pub kind-is : numberAt s after-mark ≡ Value kind after-kind
+  pub is-known : known kind ≡ true
+  pub takes : taken (fieldsOf kind) s after-kind 0 empty ≡ got (placed slots (x .next))
+  pub member-is : x .value ≡ record { mark = mark; kind = kind; fields = record { v = slots } }
+
+pub member-parts : (s : List ℕ) (p before : ℕ) (x : Placed Built) → member s p before ≡ got x → MemberParts s p x
+unfolding member markAt kindAt whole
+member-parts s p before x e =
+    let m = went-on (checked Mark (markRises before) s p) _ x e in
+    let k = went-on (checked Kind known s (m .value .next)) _ x (m .then) in
+    let f = went-on (fields (fieldsOf (k .value .value)) s (k .value .next) 0 empty) _ x (k .then) in
+    on-verdict (m .value) (k .value) (f .value) (number-was Mark (markRises before) s p (m .value .value) (m .value .next) (m .was))
+    (number-was Kind known s (m .value .next) (k .value .value) (k .value .next) (k .was))
+    (passes Kind known s (m .value .next) (k .value .value) (k .value .next) (k .was))
+    (fields-taken s (f .value .value) (k .value .next) (f .value .next) (k .value .value) (f .was))
+    (memberVerdict (k .value .value) (f .value .value)) (f .then)
+  where
+    on-verdict : (m k : Placed ℕ) (f : Placed (List ℕ)) → numberAt s p ≡ Value (m .value) (m .next) → numberAt s (m .next) ≡ Value (k .value) (k .next)
+        → known (k .value) ≡ true → taken (fieldsOf (k .value)) s (k .next) 0 empty ≡ got (placed (f .value) (f .next)) → (t : Verdict)
+        → passed t (got (placed (record { mark = m .value; kind = k .value; fields = record { v = f .value } }) (f .next))) ≡ got x
+        → MemberParts s p x
+    on-verdict m k f a b c g verdicts.Accepted e =
+        let same : placed (record { mark = m .value; kind = k .value; fields = record { v = f .value } }) (f .next) ≡ x = cc in
+        record {
+          mark = m .value;
+          after-mark = m .next;
+          kind = k .value;
+          after-kind = k .next;
+          slots = f .value;
+          mark-is = a;
+          kind-is = b;
+          is-known = c;
+          takes = g ∙ ap (λ (n : ℕ). got (placed (f .value) n)) (ap (λ (y : Placed Built). y .next) same);
+          member-is = sym (ap (λ (y : Placed Built). y .value) same);
+        }
+    on-verdict m k f a b c g (verdicts.Refused q) e = absurd (no-got e)
+
+-- an accepted member, as the code takes it
+module _ (s : List ℕ) (p : ℕ) (ok : Got (member s p 0)) where
+  was : WasGot (member s p 0)
+  was = got-was (member s p 0) ok
+
+  parts : MemberParts s p (was .value)
+  parts = member-parts s p 0 (was .value) (was .was)
+
+  refused-not : (n : Number) (q : Question) (x next : ℕ) → n ≡ Value x next → n ≡ Refused q → ⊥
+  refused-not n q x next e f = let z : _≡_ {A = ℕ} 0 1 = cc in omega arith
+
+  value-is : (n : Number) (x next y after : ℕ) → n ≡ Value x next → n ≡ Value y after → (x ≡ y) × (next ≡ after)
+  value-is n x next y after e f = (cc, cc)
+
+  got-is : {N A : Type 0} {a b : A} → _≡_ {A = Reading N A} (got a) (got b) → a ≡ b
+  got-is e = cc
+
+  abbrev made : ℕ → ℕ → List ℕ → Built
+  made m c w = record { mark = m; kind = c; fields = record { v = w } }
+
+  pub mark-taken : (q : Question) → numberAt s p ≡ Refused q → ⊥
+  mark-taken q e = refused-not _ q _ _ (parts .mark-is) e
+
+  module _ (mark at : ℕ) (m : numberAt s p ≡ Value mark at) where
+    mark-same : (parts .mark ≡ mark) × (parts .after-mark ≡ at)
+    mark-same = value-is _ _ _ _ _ (parts .mark-is) m
+
+    kind-at : numberAt s at ≡ Value (parts .kind) (parts .after-kind)
+    kind-at = rw (← mark-same .1) (parts .kind-is)
+
+    pub kind-taken : (q : Question) → numberAt s at ≡ Refused q → ⊥
+    kind-taken q e = refused-not _ q _ _ kind-at e
+
+    module _ (kind first : ℕ) (k : numberAt s at ≡ Value kind first) where
+      kind-same : (parts .kind ≡ kind) × (parts .after-kind ≡ first)
+      kind-same = value-is _ _ _ _ _ kind-at k
+
+      pub kind-is-known : known kind ≡ true
+      kind-is-known = rw (← kind-same .0) (parts .is-known)
+
+      takes : taken (fieldsOf kind) s first 0 empty ≡ got (placed (parts .slots) (was .value .next))
+      takes = rw (← kind-same .0, ← kind-same .1) (parts .takes)
+
+      module _ (n : Number) (v : List ℕ) (t : tookOf n v ≡ taken (fieldsOf kind) s first 0 empty) where
+        pub fields-not-refused : (q : Question) → n ≡ Refused q → ⊥
+        fields-not-refused q e = no-got (sym (ap (λ (k : Number). tookOf k v) e) ∙ t ∙ takes)
+
+        pub member-taken : (y next : ℕ) → n ≡ Value y next → member s p 0 ≡ got (placed (record { mark = mark; kind = kind; fields = record { v = v } }) next)
+        member-taken y next e =
+            let f : placed v next ≡ placed (parts .slots) (was .value .next) = got-is (sym (took-got n v _ t y next e) ∙ takes) in
+            was .was
+            ∙ ap (λ (b : Built). got (placed b (was .value .next))) (parts .member-is)
+            ∙ ap (λ (m : ℕ). got (placed (made m (parts .kind) (parts .slots)) (was .value .next))) (mark-same .0)
+            ∙ ap (λ (c : ℕ). got (placed (made mark c (parts .slots)) (was .value .next))) (kind-same .0)
+            ∙ ap (λ (r : Placed (List ℕ)). got (placed (made mark kind (r .value)) (r .next))) (sym f)
+
 -- ---- A schedule.
 
 pub members-accepted : (n : ℕ) (s : List ℕ) (p before i : ℕ) (ms : List Member) (end : ℕ) → members n s p before i ≡ got (placed ms end) → AcceptedMembers ms
@@ -101,16 +224,6 @@ asked-got q false next a e = absurd (no-got e)
 named-got : {A : Type 0} (i : ℕ) (o : Reading Question A) (a : A) → named i o ≡ got a → o ≡ got a
 named-got i (got x) a e = cc
 named-got i (no q) a e = absurd (no-got e)
-
-number-was : (q : Question) (test : ℕ → Bool) (s : List ℕ) (p x next : ℕ) → checked q test s p ≡ got (placed x next) → numberAt s p ≡ Value x next
-number-was q test s p x next =
-    on-checked (λ o. o ≡ got (placed x next) → numberAt s p ≡ Value x next) q test s p
-    (λ y after n _ e.
-    let same : placed y after ≡ placed x next = cc in
-    let v : y ≡ x = ap (λ (r : Placed ℕ). r .value) same in
-    let f : after ≡ next = ap (λ (r : Placed ℕ). r .next) same in
-    rw (← v, ← f) n)
-    (λ r e. absurd (no-got e))
 
 pub schedule-read : (s : List ℕ) (ms : List Member) → schedule s ≡ got ms → ScheduleRead s ms
 unfolding schedule

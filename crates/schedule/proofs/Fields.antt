@@ -9,7 +9,7 @@ use Rattle.question.specs.declared.Question.the-variants.{Field}
 use Rattle.number.specs.declared.Number.{Number}
 use Rattle.number.specs.declared.Number.the-variants.{Value, Refused}
 use Rattle.field.specs.declared.Domain.{Domain}
-use Rattle.field.specs.declared.Domain.the-variants.{Range}
+use Rattle.field.specs.declared.Domain.the-variants.{Grade}
 use Rattle.field.specs.Domain.{asked, holds}
 use Rattle.field.proofs.Tables.{drop-one}
 use Rattle.schedule.specs.Reading.{got, no, placed, andThen, ofNumber}
@@ -20,7 +20,7 @@ module _ (fs : List Domain) (s : List ℕ) (p i : ℕ) (v : List ℕ) where
   unfolding fields
   fields-read h = rw (drop-of-length-le fs h)
 
-  module _ (h : i < length fs) (d : Domain) (is : d ≡ getD fs i (Range 0 0)) where
+  module _ (h : i < length fs) (d : Domain) (is : d ≡ getD fs i Grade) where
     step : fields (drop i fs) s p i v ≡ andThen (field d s p i v) (λ r. fields (drop (i + 1) fs) s (r .next) (i + 1) (r .value))
     unfolding fields
     step = rw (drop-one fs i h, is)

@@ -133,12 +133,16 @@ module _ (n : ℕ) (s : List ℕ) (p before i : ℕ) (h : 0 < n) where
   member-read mark next e =
       let m = marked-got (member s p before) mark next e in
       ap (λ (k : ℕ). placeAfter (members k s p before i)) one-more
-      ∙ rw (m .was, m .mark-is) (kept (memberOf (m .built)) (members (n - 1) s next mark (i + 1)))
+      ∙ after (m .built) (m .was)
+      ∙ ap (λ (k : ℕ). placeAfter (members (n - 1) s next k (i + 1))) (m .mark-is)
     where
       kept : (m : Member) (o : Reading Refusal (Placed (List Member)))
           → placeAfter (andThen o (λ ms. got (placed (m ∷ ms .value) (ms .next)))) ≡ placeAfter o
       kept m (got ms) = refl
       kept m (no r) = refl
+
+      after : (b : Built) → member s p before ≡ got (placed b next) → placeAfter (members (suc (n - 1)) s p before i) ≡ placeAfter (members (n - 1) s next (b .mark) (i + 1))
+      after b f = rw f (kept (memberOf b) (members (n - 1) s next (b .mark) (i + 1)))
 
 -- What a row of n members that was read says of its first member and of the others.
 pub record FirstRead (n : ℕ) (s : List ℕ) (p before i : ℕ) (ms : List Member) (end : ℕ) : Type 0 where

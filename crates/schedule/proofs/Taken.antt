@@ -1,5 +1,5 @@
 -- Fields taken as numbers: in rows as the code takes them, and against the fields read one by one.
-use Prim.Native.Nat.{ℕ, zero, suc, _+_, _*_, _≤_, _<_}
+use Prim.Native.Nat.{ℕ, zero, suc, _+_, _-_, _*_, _≤_, _<_, min}
 use mathlib.Core.Path.{_≡_, refl, sym, ap, _∙_}
 use mathlib.Core.Bool.{Bool, true, false, _&&_}
 use mathlib.Core.List.{List, [], _∷_, _++_}
@@ -106,6 +106,36 @@ taken-fields s w p q kind k e h = taken-read s w q (fieldsOf kind) p 0 empty (in
 
 pub fields-taken : (s w : List ℕ) (p q kind : ℕ) → fields (fieldsOf kind) s p 0 empty ≡ got (placed w q) → taken (fieldsOf kind) s p 0 empty ≡ got (placed w q)
 fields-taken s w p q kind e = read-taken s w q (fieldsOf kind) p 0 empty e
+
+-- ---- A row, as the code takes it.
+
+module _ (s : List ℕ) (p end i : ℕ) (v : List ℕ) where
+  pub run-ended : end ≤ i → run (end - i) s p i v ≡ got (placed v p)
+  unfolding run
+  run-ended h = let z : end - i ≡ 0 = omega arith in rw z
+
+  module _ (h : i < end) where
+    one-more : end - i ≡ suc (end - (i + 1))
+    one-more = omega arith
+
+    pub run-refused : (q : Question) → numberAt s p ≡ Refused q → run (end - i) s p i v ≡ no q
+    unfolding run stored
+    run-refused q e = rw (one-more, e)
+
+    pub run-stored : (x next : ℕ) → numberAt s p ≡ Value x next → run (end - i) s p i v ≡ run (end - (i + 1)) s next (i + 1) (set v i x)
+    unfolding run stored
+    run-stored x next e = rw (one-more, e)
+
+-- a row that was refused or taken, and what follows it
+module _ (n : Number) (v : List ℕ) (o : Reading Question (Placed (List ℕ))) (took : tookOf n v ≡ o) (f : Placed (List ℕ) → Reading Question (Placed (List ℕ))) where
+  pub then-refused : (q : Question) → n ≡ Refused q → andThen o f ≡ no q
+  then-refused q e = rw (← took, e)
+
+  pub then-on : (x next : ℕ) → n ≡ Value x next → andThen o f ≡ f (placed v next)
+  then-on x next e = rw (← took, e)
+
+pub took-got : (n : Number) (v : List ℕ) (o : Reading Question (Placed (List ℕ))) → tookOf n v ≡ o → (x next : ℕ) → n ≡ Value x next → o ≡ got (placed v next)
+took-got n v o took x next e = rw (← took, e)
 
 -- ---- Rows.
 
@@ -221,9 +251,16 @@ module _ (k n : ℕ) where
   row (suc (suc (suc (suc zero)))) few all h = there 0 (omega arith) _ _ (there 1 (omega arith) _ _ (there 2 (omega arith) _ _ (there 3 (omega arith) _ _ none)))
   row (suc (suc (suc (suc (suc g))))) few all h = absurd (omega arith)
 
-  pub list-run : (g : ℕ) → g ≤ n → (g < 4 → n ≤ g) → g ≤ 4 → (s : List ℕ) (p : ℕ) (v : List ℕ) → getD v k 0 ≡ n → taken (groups k) s p (k + 1) v ≡ run (2 * g) s p (k + 1) v
+  list-run : (g : ℕ) → g ≡ min n 4 → (s : List ℕ) (p : ℕ) (v : List ℕ) → getD v k 0 ≡ n → taken (groups k) s p (k + 1) v ≡ run (2 * g) s p (k + 1) v
   unfolding Count Rows
-  list-run g few all h s p v e = row-run Count (k + 1) count-stays (groups k) (2 * g) (row g few all h) s p (k + 1) v (omega arith) e
+  list-run g h s p v e =
+      row-run Count (k + 1) count-stays (groups k) (2 * g) (row g (omega arith) (λ l. omega arith) (omega arith)) s p (k + 1) v (omega arith) e
+
+-- as the code takes it
+pub list-taken : (k g : ℕ) (s : List ℕ) (p : ℕ) (v : List ℕ) → g ≡ min (getD v k 0) 4 → run (k + 1 + 2 * g - (k + 1)) s p (k + 1) v ≡ taken (groups k) s p (k + 1) v
+list-taken k g s p v h =
+    let z : k + 1 + 2 * g - (k + 1) ≡ 2 * g = omega arith in
+    ap (λ (m : ℕ). run m s p (k + 1) v) z ∙ sym (list-run k (getD v k 0) g h s p v refl)
 
 -- ---- By kind: rows and lists, one after the other.
 

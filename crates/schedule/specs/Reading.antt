@@ -22,7 +22,7 @@ abbrev pub placed : {A : Type 0} → A → ℕ → Placed A
 placed a p = record { value = a; next = p }
 
 -- no question was answered no
-pub Got : {N A : Type 0} → Reading N A → Type 0
+unfoldable pub Got : {N A : Type 0} → Reading N A → Type 0
 Got (got a) = Unit {0}
 Got (no q) = ⊥
 

@@ -324,7 +324,7 @@ fn no_head() -> Head {
 
 // The fields of the accepted member at `at` into empty slots: its mark and kind, and the place after it.
 pub fn take_member(src: &[u8], at: usize, v: &mut [u32; 40]) -> Head
-    requires { ⌜ (now (v .entry) ≡ empty) × (Got (member (now (src .entry)) at 0)) ⌝ }
+    requires { ⌜ (now v ≡ empty) × (Got (member (now src) at 0)) ⌝ }
     ensures { λ r. ⌜ member (now (src .entry)) at 0 ≡ got (placed (headed r (now (v .exit))) (r .next)) ⌝ }
 {
     match number_at(src, at) {

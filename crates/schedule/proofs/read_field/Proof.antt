@@ -16,8 +16,8 @@ enum-known-q c = search needs
 enum-known-x : tie.Need-enum-known-x
 enum-known-x c = search needs
 
-sort-holds-requires : tie.Need-sort-holds-requires
-sort-holds-requires c κs = search needs
+domain-holds-requires : tie.Need-domain-holds-requires
+domain-holds-requires c κs = search needs
 
 returns : tie.Need-returns
 returns c = sym (number-refused Field (holds _) _ _ _ (sym (c .before .before .before .number-at .ensures) ∙ c .before .q .given .1))
@@ -25,12 +25,12 @@ returns c = sym (number-refused Field (holds _) _ _ _ (sym (c .before .before .b
 returns-2 : tie.Need-returns-2
 returns-2 c =
     let x = c .before .before .before in
-    sym (number-passes Field (holds _) _ _ _ _ (sym (x .before .before .number-at .ensures) ∙ x .x .given .1) (sym (c .before .sort-holds .ensures) ∙ c .if1 .taken))
+    sym (number-passes Field (holds _) _ _ _ _ (sym (x .before .before .number-at .ensures) ∙ x .x .given .1) (sym (c .before .domain-holds .ensures) ∙ c .if1 .taken))
 
 returns-3 : tie.Need-returns-3
 returns-3 c =
     let x = c .before .before .before in
-    sym (number-fails Field (holds _) _ _ _ _ (sym (x .before .before .number-at .ensures) ∙ x .x .given .1) (sym (c .before .sort-holds .ensures) ∙ c .if1 .left))
+    sym (number-fails Field (holds _) _ _ _ _ (sym (x .before .before .number-at .ensures) ∙ x .x .given .1) (sym (c .before .domain-holds .ensures) ∙ c .if1 .left))
 
 pub read-field-spec : {M : Type 1} → statement M
 read-field-spec =
@@ -39,7 +39,7 @@ read-field-spec =
     number-at-requires
     enum-known-q
     enum-known-x
-    sort-holds-requires
+    domain-holds-requires
     returns
     returns-2
     returns-3)

@@ -1,59 +1,36 @@
 -- `schedule::read_fields` meets its contract.
-use Prim.Native.Nat.{_+_, _-_, _≤_, _<_}
+use Prim.Native.Nat.{_-_, _≤_, _<_}
 use mathlib.Core.Path.{_≡_, refl, sym, _∙_}
 use lib.ListN.{length, drop}
 use native.Mathlib.Omega.{arith}
 use borrow.Author.Needs.{needs}
 use Rattle.field.specs.Fields.{fieldsOf}
-use Rattle.field.specs.Columns.{firstRow}
-use Rattle.field.proofs.Tables.{row-of, fields-fit}
+use Rattle.field.proofs.Tables.{fields-fit}
 use Rattle.schedule.specs.Schedule.{empty, fields}
 use Rattle.schedule.proofs.Fields.{fields-read, field-absent, field-refused, field-stored}
 use Rattle.schedule.proofs.read_fields.Statement.{statement}
 use Rattle.schedule.proofs.read_fields.Tie as tie
 
 abbrev Inv-loop : tie.InvT-loop
-Inv-loop src at kind n start sorts firsts seconds v₀ p₀ i₀ v p i =
-    (n ≡ length (fieldsOf kind)) × (start ≡ firstRow kind) × (n ≤ 40) × (start + n ≤ 65) × (length v ≡ 40) × (fields (fieldsOf kind) src at 0 empty ≡ fields (drop i (fieldsOf kind)) src p i v)
+Inv-loop src at kind n v₀ p₀ i₀ v p i =
+    (n ≡ length (fieldsOf kind)) × (n ≤ 40) × (length v ≡ 40) × (fields (fieldsOf kind) src at 0 empty ≡ fields (drop i (fieldsOf kind)) src p i v)
 
 abbrev μ-loop : tie.MeasureT-loop
-μ-loop src at kind n start sorts firsts seconds v₀ p₀ i₀ v p i = n - i
+μ-loop src at kind n v₀ p₀ i₀ v p i = n - i
 
 field-count-requires : tie.Need-field-count-requires Inv-loop μ-loop
 field-count-requires c κs = search needs
 
-first-row-requires : tie.Need-first-row-requires Inv-loop μ-loop
-first-row-requires c κs = search needs
-
 loop-holds : tie.Need-loop-holds Inv-loop μ-loop
-loop-holds c = let f = fields-fit _ (c .before .before .before .pre) in (search needs, search needs, search needs, search needs, refl, refl)
+loop-holds c = let f = fields-fit _ (c .before .before .pre) in (search needs, search needs, refl, refl)
 
-add-row : tie.Need-add-row Inv-loop μ-loop
-add-row c = search needs
+field-of-requires : tie.Need-field-of-requires Inv-loop μ-loop
+field-of-requires c κs =
+    let l = c .before in
+    (l .before .before .before .pre, omega (arith, l .loop .inv .0, c .loop-test .taken))
 
-mul-sort : tie.Need-mul-sort Inv-loop μ-loop
-mul-sort c = search needs
-
-array-read-sort : tie.Need-array-read-sort Inv-loop μ-loop
-array-read-sort c = search needs
-
-mul-a : tie.Need-mul-a Inv-loop μ-loop
-mul-a c = search needs
-
-array-read-a : tie.Need-array-read-a Inv-loop μ-loop
-array-read-a c = search needs
-
-mul-b : tie.Need-mul-b Inv-loop μ-loop
-mul-b c = search needs
-
-array-read-b : tie.Need-array-read-b Inv-loop μ-loop
-array-read-b c = search needs
-
-slice-aggregate-sort-asked : tie.Need-slice-aggregate-sort-asked Inv-loop μ-loop
-slice-aggregate-sort-asked c = search needs
-
-sort-asked-requires : tie.Need-sort-asked-requires Inv-loop μ-loop
-sort-asked-requires c κs = search needs
+domain-asked-requires : tie.Need-domain-asked-requires Inv-loop μ-loop
+domain-asked-requires c κs = search needs
 
 read-field-requires : tie.Need-read-field-requires Inv-loop μ-loop
 read-field-requires c κs = search needs
@@ -69,12 +46,13 @@ returns c =
     let x = c .before .before in
     let r = x .before .before in
     let a = r .before .before in
-    let l = a .before .before .before in
-    let s = l .before .before .before .before in
+    let d = a .before .before in
+    let l = d .before .before in
+    let s = l .before .before .before in
     let h : l .loop .i < length (fieldsOf (s .args .kind)) = omega (arith, l .loop .inv .0) in
     c .refused-run .ensures
-    ∙ sym (l .loop .inv .5 ∙ field-refused (fieldsOf (s .args .kind)) (s .args .src .now) (l .loop .p) (l .loop .i) (l .loop .v) h _ (row-of _ _ _ (l .loop .inv .1) h)
-    (sym (a .sort-asked .ensures) ∙ r .before .if1 .taken) _ (r .read-field .ensures) _ (x .q .given .1))
+    ∙ sym (l .loop .inv .3 ∙ field-refused (fieldsOf (s .args .kind)) (s .args .src .now) (l .loop .p) (l .loop .i) (l .loop .v) h _ (d .field-of .ensures)
+    (sym (a .domain-asked .ensures) ∙ r .before .if1 .taken) _ (r .read-field .ensures) _ (x .q .given .1))
 
 enum-known-x : tie.Need-enum-known-x Inv-loop μ-loop
 enum-known-x c = search needs
@@ -96,16 +74,15 @@ loop-again c =
     let x = c .before in
     let r = x .before .before in
     let a = r .before .before in
-    let l = a .before .before .before in
-    let s = l .before .before .before .before in
+    let d = a .before .before in
+    let l = d .before .before in
+    let s = l .before .before .before in
     let h : l .loop .i < length (fieldsOf (s .args .kind)) = omega (arith, l .loop .inv .0) in (
       l .loop .inv .0,
       l .loop .inv .1,
-      l .loop .inv .2,
-      l .loop .inv .3,
       search needs,
-      l .loop .inv .5 ∙ field-stored (fieldsOf (s .args .kind)) (s .args .src .now) (l .loop .p) (l .loop .i) (l .loop .v) h _ (row-of _ _ _ (l .loop .inv .1) h)
-          (sym (a .sort-asked .ensures) ∙ r .before .if1 .taken) _ (r .read-field .ensures) _ _ (x .x .given .1),
+      l .loop .inv .3 ∙ field-stored (fieldsOf (s .args .kind)) (s .args .src .now) (l .loop .p) (l .loop .i) (l .loop .v) h _ (d .field-of .ensures)
+          (sym (a .domain-asked .ensures) ∙ r .before .if1 .taken) _ (r .read-field .ensures) _ _ (x .x .given .1),
     )
 
 add-i-2 : tie.Need-add-i-2 Inv-loop μ-loop
@@ -117,22 +94,22 @@ loop-less-2 c = search needs
 loop-again-2 : tie.Need-loop-again-2 Inv-loop μ-loop
 loop-again-2 c =
     let a = c .before in
-    let l = a .before .before .before in
-    let s = l .before .before .before .before in
+    let d = a .before .before in
+    let l = d .before .before in
+    let s = l .before .before .before in
     let h : l .loop .i < length (fieldsOf (s .args .kind)) = omega (arith, l .loop .inv .0) in (
       l .loop .inv .0,
       l .loop .inv .1,
       l .loop .inv .2,
-      l .loop .inv .3,
-      l .loop .inv .4,
-      l .loop .inv .5 ∙ field-absent (fieldsOf (s .args .kind)) (s .args .src .now) (l .loop .p) (l .loop .i) (l .loop .v) h _ (row-of _ _ _ (l .loop .inv .1) h) (sym (a .sort-asked .ensures) ∙ c .if1 .left),
+      l .loop .inv .3 ∙ field-absent (fieldsOf (s .args .kind)) (s .args .src .now) (l .loop .p) (l .loop .i) (l .loop .v) h _ (d .field-of .ensures)
+          (sym (a .domain-asked .ensures) ∙ c .if1 .left),
     )
 
 returns-2 : tie.Need-returns-2 Inv-loop μ-loop
 returns-2 c =
     let l = c .before in
-    let s = l .before .before .before .before in
-    sym (l .loop .inv .5 ∙ fields-read (fieldsOf (s .args .kind)) _ _ (l .loop .i) _ (omega (arith, l .loop .inv .0)))
+    let s = l .before .before .before in
+    sym (l .loop .inv .3 ∙ fields-read (fieldsOf (s .args .kind)) _ _ (l .loop .i) _ (omega (arith, l .loop .inv .0)))
 
 pub read-fields-spec : {M : Type 1} → statement M
 read-fields-spec =
@@ -141,17 +118,9 @@ read-fields-spec =
     Inv-loop
     μ-loop
     field-count-requires
-    first-row-requires
     loop-holds
-    add-row
-    mul-sort
-    array-read-sort
-    mul-a
-    array-read-a
-    mul-b
-    array-read-b
-    slice-aggregate-sort-asked
-    sort-asked-requires
+    field-of-requires
+    domain-asked-requires
     read-field-requires
     enum-known-q
     refused-run-requires

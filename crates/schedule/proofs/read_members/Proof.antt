@@ -26,7 +26,7 @@ enum-known-verdict c = search needs
 returns : tie.Need-returns Inv-loop μ-loop
 returns c =
     let v = c .before in
-    let r = v .before .before .before in
+    let r = v .before .before in
     let l = r .before .before in
     sym (l .loop .inv .1 ∙ ap placeAfter (member-refused _ _ _ _ _ (r .before .loop-test .taken) _ (sym (r .read-member .ensures) ∙ read-no _ _ (v .verdict .given .1))))
 
@@ -44,7 +44,7 @@ loop-less c = search needs
 
 loop-again : tie.Need-loop-again Inv-loop μ-loop
 loop-again c =
-    let r = c .before .before .before in
+    let r = c .before .before in
     let l = r .before .before in
     (search needs, l .loop .inv .1 ∙ member-read _ _ _ _ _ (r .before .loop-test .taken) _ _ (sym (r .read-member .ensures) ∙ read-got _ (c .enum-told .given .1)))
 

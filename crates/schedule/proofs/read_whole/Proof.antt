@@ -1,49 +1,64 @@
 -- `schedule::read_whole` meets its contract.
-use mathlib.Core.Path.{sym, _∙_}
-use Rattle.schedule.proofs.Held.{fields-held}
-use Rattle.schedule.proofs.Members.{run-got, run-no, whole-no, whole-passed}
+use mathlib.Core.Path.{refl, sym, _∙_}
+use Rattle.schedule.proofs.Members.{whole-passed}
+use Rattle.schedule.proofs.Taken.{took-got, taken-fields}
 use borrow.Author.Needs.{needs}
 use Rattle.schedule.proofs.read_whole.Statement.{statement}
 use Rattle.schedule.proofs.read_whole.Tie as tie
 
-read-fields-requires : tie.Need-read-fields-requires
-read-fields-requires c κs = search needs
-
-enum-known-verdict : tie.Need-enum-known-verdict
-enum-known-verdict c = search needs
-
-refused-member-requires : tie.Need-refused-member-requires
-refused-member-requires c κs = search needs
+take-fields-requires : tie.Need-take-fields-requires
+take-fields-requires c κs = search needs
 
 enum-told : tie.Need-enum-told
 enum-told c = search needs
 
+read-one-by-one-requires : tie.Need-read-one-by-one-requires
+read-one-by-one-requires c κs = search needs
+
+enum-known-next : tie.Need-enum-known-next
+enum-known-next c = search needs
+
+fields-hold-requires : tie.Need-fields-hold-requires
+fields-hold-requires c κs = search needs
+
 member-verdict-requires : tie.Need-member-verdict-requires
 member-verdict-requires c κs =
-    let f = c .before .before .before in
-    let s = f .before .before in
-    (s .pre, fields-held _ _ _ _ _ (s .pre) (sym (f .read-fields .ensures) ∙ run-got _ (c .enum-told .given .1)))
+    let h = c .before .before in
+    let s = h .before .before .before .before .before .before .before .before in
+    (s .pre, sym (h .fields-hold .ensures) ∙ c .before .if1 .taken)
+
+read-one-by-one-requires-2 : tie.Need-read-one-by-one-requires-2
+read-one-by-one-requires-2 c κs = search needs
 
 returns : tie.Need-returns
-returns c =
-    let v = c .before .before in
-    let f = v .before .before .before in
-    c .refused-member .ensures ∙ sym (whole-no _ _ _ _ _ (sym (f .read-fields .ensures) ∙ run-no _ _ (v .verdict .given .1)))
+returns c = search needs
 
 returns-2 : tie.Need-returns-2
 returns-2 c =
-    let e = c .before in
-    let f = e .before .before .before in
-    rw (c .member-verdict .ensures) (sym (whole-passed _ _ _ _ _ _ (sym (f .read-fields .ensures) ∙ run-got _ (e .enum-told .given .1))))
+    let i = c .before .before in
+    let h = i .before in
+    let n = h .before .before .before in
+    let t = n .before .before in
+    let s = t .before .before .before in
+    rw (c .member-verdict .ensures)
+    (sym
+    (whole-passed _ _ _ _ _ _
+    (taken-fields _ _ _ _ _ (s .pre) (took-got _ _ _ (t .take-fields .ensures) _ _ (n .next .given .1)) (sym (h .fields-hold .ensures) ∙ i .if1 .taken))))
+
+returns-3 : tie.Need-returns-3
+returns-3 c = search needs
 
 pub read-whole-spec : {M : Type 1} → statement M
 read-whole-spec =
     tie.close
     (tie.spec
-    read-fields-requires
-    enum-known-verdict
-    refused-member-requires
+    take-fields-requires
     enum-told
+    read-one-by-one-requires
+    enum-known-next
+    fields-hold-requires
     member-verdict-requires
+    read-one-by-one-requires-2
     returns
-    returns-2)
+    returns-2
+    returns-3)

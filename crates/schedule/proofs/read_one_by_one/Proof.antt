@@ -1,0 +1,49 @@
+-- `schedule::read_one_by_one` meets its contract.
+use mathlib.Core.Path.{sym, _∙_}
+use Rattle.schedule.proofs.Held.{fields-held}
+use Rattle.schedule.proofs.Members.{run-got, run-no, whole-no, whole-passed}
+use borrow.Author.Needs.{needs}
+use Rattle.schedule.proofs.read_one_by_one.Statement.{statement}
+use Rattle.schedule.proofs.read_one_by_one.Tie as tie
+
+read-fields-requires : tie.Need-read-fields-requires
+read-fields-requires c κs = search needs
+
+enum-known-verdict : tie.Need-enum-known-verdict
+enum-known-verdict c = search needs
+
+refused-member-requires : tie.Need-refused-member-requires
+refused-member-requires c κs = search needs
+
+enum-told : tie.Need-enum-told
+enum-told c = search needs
+
+member-verdict-requires : tie.Need-member-verdict-requires
+member-verdict-requires c κs =
+    let f = c .before .before .before .before .before in
+    let s = f .before .before in
+    (s .pre, fields-held _ _ _ _ _ (s .pre) (sym (f .read-fields .ensures) ∙ run-got _ (c .before .enum-told .given .1)))
+
+returns : tie.Need-returns
+returns c =
+    let v = c .before .before in
+    let f = v .before .before .before .before in
+    c .refused-member .ensures ∙ sym (whole-no _ _ _ _ _ (sym (f .read-fields .ensures) ∙ run-no _ _ (v .verdict .given .1)))
+
+returns-2 : tie.Need-returns-2
+returns-2 c =
+    let e = c .before in
+    let f = e .before .before .before .before .before in
+    rw (c .member-verdict .ensures) (sym (whole-passed _ _ _ _ _ _ (sym (f .read-fields .ensures) ∙ run-got _ (e .before .enum-told .given .1))))
+
+pub read-one-by-one-spec : {M : Type 1} → statement M
+read-one-by-one-spec =
+    tie.close
+    (tie.spec
+    read-fields-requires
+    enum-known-verdict
+    refused-member-requires
+    enum-told
+    member-verdict-requires
+    returns
+    returns-2)
