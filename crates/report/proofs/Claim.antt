@@ -36,9 +36,9 @@ use Rattle.checks.specs.Outcome.{markOf, outcomeOf}
 use Rattle.checks.proofs.Safe.{line-safe}
 use Rattle.report.specs.declared.Answer.{Answer}
 use Rattle.report.specs.declared.Answer.the-variants.{Written, Refused}
-use Rattle.report.specs.Report.{reportText, memberText, Printed, reportOf, memberReportOf, linesFrom, placeAfter}
+use Rattle.report.specs.Report.{reportText, memberText, Printed, reportOf, memberReportOf, AcceptedFrom, linesFrom, placeAfter}
 use Rattle.report.specs.Claim.{SafeReport, Reported, MemberReported}
-use Rattle.report.proofs.Lines.{report-lines, mark-of}
+use Rattle.report.proofs.Lines.{members-lines, report-lines, mark-of}
 
 -- ---- What the two runs give.
 
@@ -116,7 +116,8 @@ surveyed-no (reading.no q) r e = cc
 record Read (s : List ℕ) (count at : ℕ) : Type 0 where
   ms : List Member
   reads : schedule s ≡ got ms
-  text : lineText (headWords count) ++ linesFrom count s at 0 ≡ reportText ms
+  accepted : AcceptedFrom count s at
+  text : lineText (headWords count) ++ linesFrom count s at ≡ reportText ms
 
 read-of : (s : List ℕ) (o : Reading Refusal (List Member)) (count at : ℕ) → schedule s ≡ o → surveyed.Accepted count ≡ answerOf o →
     at ≡ placeAfter (numberAt s 0) → Read s count at
@@ -126,11 +127,19 @@ read-of s (got ms) count at e a p =
     let l = members-length (f .count) s (f .start) 0 1 ms (f .end) (f .reads) in
     let k : count ≡ f .count = c ∙ l in
     let q : at ≡ f .start = p ∙ ap placeAfter (f .counted) in
-    record { ms = ms; reads = e; text = rw (k, q) (report-lines (f .count) s (f .start) ms (f .end) (f .reads)) }
+    record {
+      ms = ms;
+      reads = e;
+      accepted = rw (k, q) (members-lines (f .count) s (f .start) 0 1 ms (f .end) (f .reads) .0);
+      text = rw (k, q) (report-lines (f .count) s (f .start) ms (f .end) (f .reads));
+    }
 read-of s (reading.no r) count at e a p = absurd (let z : _≡_ {A = ℕ} 0 1 = cc in omega arith)
 
+pub surveyed-accepted : (s : List ℕ) (count at : ℕ) → surveyed.Accepted count ≡ answerOf (schedule s) → at ≡ placeAfter (numberAt s 0) → AcceptedFrom count s at
+surveyed-accepted s count at e p = read-of s (schedule s) count at refl e p .accepted
+
 pub surveyed-yes : (s d d′ : List ℕ) (a : Answer) (count at : ℕ) → surveyed.Accepted count ≡ answerOf (schedule s) →
-    at ≡ placeAfter (numberAt s 0) → Printed 0 (lineText (headWords count) ++ linesFrom count s at 0) d d′ a → Reported s d d′ a
+    at ≡ placeAfter (numberAt s 0) → Printed 0 (lineText (headWords count) ++ linesFrom count s at) d d′ a → Reported s d d′ a
 surveyed-yes s d d′ a count at e p w =
     let r = read-of s (schedule s) count at refl e p in
     reported s d d′ a (r .ms) (r .reads) (rw (r .text) at w)

@@ -50,18 +50,18 @@ report-short ms a h =
     omega (arith, text-short 55 (all-and head (lines-short ms a)), length-map ms (λ m. lineWords (markOf m) (outcomeOf m)))
 
 -- the lines of members read one after the other
-lines-most : (n : ℕ) (s : List ℕ) (p before : ℕ) → length (linesFrom n s p before) ≤ 55 * n
+lines-most : (n : ℕ) (s : List ℕ) (p : ℕ) → length (linesFrom n s p) ≤ 55 * n
 unfolding linesFrom
-lines-most zero s p before = omega arith
-lines-most (suc n) s p before = go (λ q b. lines-most n s q b) (member s p before) refl
+lines-most zero s p = omega arith
+lines-most (suc n) s p = go (lines-most n s) (member s p 0) refl
   where
-    go : ((q b : ℕ) → length (linesFrom n s q b) ≤ 55 * n) → (o : Reading Question (Placed Built)) → member s p before ≡ o →
-        length (withMember o (λ b. memberText (memberOf (b .value)) ++ linesFrom n s (b .next) (b .value .mark))) ≤ 55 * suc n
+    go : ((q : ℕ) → length (linesFrom n s q) ≤ 55 * n) → (o : Reading Question (Placed Built)) → member s p 0 ≡ o →
+        length (withMember o (λ b. memberText (memberOf (b .value)) ++ linesFrom n s (b .next))) ≤ 55 * suc n
     go h (got b) e =
         let m = memberOf (b .value) in
-        rw length-append (omega (arith, h (b .next) (b .value .mark), member-line-short m (member-was s p before (b .value) (b .next) e .accepted)))
+        rw length-append (omega (arith, h (b .next), member-line-short m (member-was s p 0 (b .value) (b .next) e .accepted)))
     go h (no q) e = omega arith
 
 pub report-fits : (count : ℕ) (s : List ℕ) (p : ℕ) {n : ℕ} → count < 2 ^ 32 → 19 + 55 * count ≤ n →
-    length (lineText (headWords count) ++ linesFrom count s p 0) ≤ n
-report-fits count s p h k = rw length-append (omega (arith, head-short 10 count (omega arith) (omega arith), lines-most count s p 0))
+    length (lineText (headWords count) ++ linesFrom count s p) ≤ n
+report-fits count s p h k = rw length-append (omega (arith, head-short 10 count (omega arith) (omega arith), lines-most count s p))

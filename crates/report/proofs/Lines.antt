@@ -16,30 +16,39 @@ use Rattle.outcome.specs.declared.Outcome.{Outcome}
 use Rattle.member.specs.Member.{Member, beam, column, mesh}
 use Rattle.built.specs.declared.Built.{Built}
 use Rattle.built.specs.Slots.{memberAt, memberOf, beamAt, columnAt, meshAt}
-use Rattle.schedule.specs.Reading.{got, no, placed, Placed}
+use Rattle.schedule.specs.Reading.{Reading, got, no, placed, Placed, Got}
 use Rattle.schedule.specs.Schedule.{member, members}
 use Rattle.schedule.proofs.Members.{first-read, members-length}
+use Rattle.schedule.proofs.Accepted.{any-before}
 use Rattle.checks.specs.Outcome.{markOf, outcomeOf}
-use Rattle.report.specs.Report.{reportText, memberText, linesFrom}
+use Rattle.report.specs.Report.{reportText, memberText, AcceptedThen, AcceptedFrom, linesFrom}
 
 -- ---- One turn.
 
-pub lines-none : (n : ℕ) (s : List ℕ) (p before : ℕ) → n ≤ 0 → linesFrom n s p before ≡ []
+pub lines-none : (n : ℕ) (s : List ℕ) (p : ℕ) → n ≤ 0 → linesFrom n s p ≡ []
 unfolding linesFrom
-lines-none n s p before h = let e : n ≡ 0 = omega arith in rw e
+lines-none n s p h = let e : n ≡ 0 = omega arith in rw e
 
-module _ (n : ℕ) (s : List ℕ) (p before : ℕ) (h : 0 < n) where
+module _ (n : ℕ) (s : List ℕ) (p : ℕ) (h : 0 < n) where
   one-less : n ≡ suc (n - 1)
   one-less = omega arith
 
-  pub lines-refused : (q : Question) → member s p before ≡ no q → linesFrom n s p before ≡ []
-  unfolding linesFrom
-  lines-refused q e = rw (one-less, e)
+  pub first-accepted : AcceptedFrom n s p → Got (member s p 0)
+  unfolding AcceptedFrom Got
+  first-accepted a = go (member s p 0) (rw one-less at a)
+    where
+      go : (o : Reading Question (Placed Built)) → AcceptedThen o (λ b. AcceptedFrom (n - 1) s (b .next)) → Got o
+      go (got b) a = tt
+      go (no q) a = a
 
-  pub lines-more : (b : Built) (next : ℕ) → member s p before ≡ got (placed b next) →
-      linesFrom n s p before ≡ memberText (memberOf b) ++ linesFrom (n - 1) s next (b .mark)
-  unfolding linesFrom
-  lines-more b next e = ap (λ (k : ℕ). linesFrom k s p before) one-less ∙ rw e
+  module _ (b : Built) (next : ℕ) (e : member s p 0 ≡ got (placed b next)) where
+    pub others-accepted : AcceptedFrom n s p → AcceptedFrom (n - 1) s next
+    unfolding AcceptedFrom
+    others-accepted a = rw (one-less, e) at a
+
+    pub lines-more : linesFrom n s p ≡ memberText (memberOf b) ++ linesFrom (n - 1) s next
+    unfolding linesFrom
+    lines-more = ap (λ (k : ℕ). linesFrom k s p) one-less ∙ rw e
 
 -- the mark of a member in slots
 pub mark-of : (mark kind : ℕ) (v : List ℕ) → markOf (memberAt mark kind v) ≡ mark
@@ -58,19 +67,24 @@ put-member b o e w = rw (mark-of (b .mark) (b .kind) (b .fields .v), ← e) w
 
 -- ---- All of them.
 
-pub lines-of : (n : ℕ) (s : List ℕ) (p before i : ℕ) (ms : List Member) (end : ℕ) → members n s p before i ≡ got (placed ms end) →
-    linesFrom n s p before ≡ textOf (map (λ m. lineWords (markOf m) (outcomeOf m)) ms)
-unfolding members linesFrom textOf endedBy
-lines-of zero s p before i ms end e =
+-- members that were read are accepted, and their lines are the report's
+pub members-lines : (n : ℕ) (s : List ℕ) (p before i : ℕ) (ms : List Member) (end : ℕ) → members n s p before i ≡ got (placed ms end) →
+    AcceptedFrom n s p × (linesFrom n s p ≡ textOf (map (λ m. lineWords (markOf m) (outcomeOf m)) ms))
+unfolding members linesFrom AcceptedFrom textOf endedBy
+members-lines zero s p before i ms end e =
     let same : placed [] p ≡ placed ms end = cc in
-    rw (← ap (λ (x : Placed (List Member)). x .value) same)
-lines-of (suc n) s p before i ms end e =
+    (tt, rw (← ap (λ (x : Placed (List Member)). x .value) same))
+members-lines (suc n) s p before i ms end e =
     let f = first-read n s p before i ms end e in
-    rw (f .list, f .reads) (ap (λ (l : List ℕ). memberText (memberOf (f .first)) ++ l) (lines-of n s (f .next) (f .first .mark) (i + 1) (f .others) end (f .reads-others)) ∙
-    sym (text-append (lineWords (markOf (memberOf (f .first))) (outcomeOf (memberOf (f .first))) ∷ []) (map (λ m. lineWords (markOf m) (outcomeOf m)) (f .others))))
+    let m = any-before s p before _ (f .reads) in
+    let r = members-lines n s (f .next) (f .first .mark) (i + 1) (f .others) end (f .reads-others) in (
+      rw m (r .0),
+      rw (f .list, m) (ap (λ (l : List ℕ). memberText (memberOf (f .first)) ++ l) (r .1) ∙
+          sym (text-append (lineWords (markOf (memberOf (f .first))) (outcomeOf (memberOf (f .first))) ∷ []) (map (λ m. lineWords (markOf m) (outcomeOf m)) (f .others)))),
+    )
 
 pub report-lines : (n : ℕ) (s : List ℕ) (p : ℕ) (ms : List Member) (end : ℕ) → members n s p 0 1 ≡ got (placed ms end) →
-    lineText (headWords n) ++ linesFrom n s p 0 ≡ reportText ms
+    lineText (headWords n) ++ linesFrom n s p ≡ reportText ms
 report-lines n s p ms end e =
-    rw (← members-length n s p 0 1 ms end e) (ap (λ (l : List ℕ). lineText (headWords (length ms)) ++ l) (rw (members-length n s p 0 1 ms end e) (lines-of n s p 0 1 ms end e))
+    rw (← members-length n s p 0 1 ms end e) (ap (λ (l : List ℕ). lineText (headWords (length ms)) ++ l) (rw (members-length n s p 0 1 ms end e) (members-lines n s p 0 1 ms end e .1))
     ∙ sym (text-append (headWords (length ms) ∷ []) (map (λ m. lineWords (markOf m) (outcomeOf m)) ms)))

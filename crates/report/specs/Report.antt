@@ -65,15 +65,23 @@ lineOrNo (verdicts.Refused q) m = no (refusal q 1)
 unfoldable pub memberReportOf : Built → Reading Refusal (List ℕ)
 memberReportOf x = lineOrNo (builtVerdict (x .mark) (x .kind) (x .fields .v)) (memberOf x)
 
--- The lines of n members from p on, with marks above `before`; none from the first on that is refused.
+-- n accepted members stand from p on, whatever the order of their marks
+abbrev pub AcceptedThen : Reading Question (Placed Built) → (Placed Built → Type 0) → Type 0
+AcceptedThen (got b) rest = rest b
+AcceptedThen (no q) rest = ⊥
+
+unfoldable pub AcceptedFrom : ℕ → List ℕ → ℕ → Type 0
+AcceptedFrom zero src p = Unit {0}
+AcceptedFrom (suc n) src p = AcceptedThen (member src p 0) (λ b. AcceptedFrom n src (b .next))
+
+-- their lines
 abbrev pub withMember : Reading Question (Placed Built) → (Placed Built → List ℕ) → List ℕ
 withMember (got b) line = line b
 withMember (no q) line = []
 
-unfoldable pub linesFrom : ℕ → List ℕ → ℕ → ℕ → List ℕ
-linesFrom zero src p before = []
-linesFrom (suc n) src p before =
-    withMember (member src p before) (λ b. memberText (memberOf (b .value)) ++ linesFrom n src (b .next) (b .value .mark))
+unfoldable pub linesFrom : ℕ → List ℕ → ℕ → List ℕ
+linesFrom zero src p = []
+linesFrom (suc n) src p = withMember (member src p 0) (λ b. memberText (memberOf (b .value)) ++ linesFrom n src (b .next))
 
 -- the place after a number
 abbrev pub placeAfter : Number → ℕ

@@ -7,7 +7,7 @@ ghost use Rattle.text.specs.Put.{Put};
 ghost use Rattle.line.specs.Line.{headWords, lineWords, lineText};
 ghost use Rattle.number.specs.Number.{numberAt};
 ghost use Rattle.schedule.specs.Reading.{refusal};
-ghost use Rattle.report.specs.Report.{Printed, linesFrom, placeAfter};
+ghost use Rattle.report.specs.Report.{Printed, AcceptedFrom, linesFrom, placeAfter};
 ghost use Rattle.report.specs.Claim.{Reported, MemberReported};
 use built::Built;
 use built::Verdict;
@@ -30,8 +30,11 @@ pub enum Answer {
     Refused(Refusal),
 }
 
-// The lines of `count` members from `at` on, into the buffer from `to` on: the place after them.
-fn put_members(src: &[u8], at: usize, count: u32, out: &mut [u8], to: usize) -> usize {
+// The lines of `count` accepted members from `at` on, into the buffer from `to` on: the place after them.
+fn put_members(src: &[u8], at: usize, count: u32, out: &mut [u8], to: usize) -> usize
+    requires { ⌜ AcceptedFrom count (now src) at ⌝ }
+    ensures { λ r. ⌜ Put (now (out .entry)) to (linesFrom count (now (src .entry)) at) (now (out .exit)) r ⌝ }
+{
     let mut p = at;
     let mut left = count;
     let mut q = to;
@@ -45,9 +48,10 @@ fn put_members(src: &[u8], at: usize, count: u32, out: &mut [u8], to: usize) -> 
     q
 }
 
-// The whole text of `count` members from `at` on: its length.
+// The whole text of `count` accepted members from `at` on: its length.
 fn put_report(src: &[u8], at: usize, count: u32, out: &mut [u8]) -> usize
-    ensures { λ r. ⌜ Put (now (out .entry)) 0 (lineText (headWords count) ++ linesFrom count (now (src .entry)) at 0) (now (out .exit)) r ⌝ }
+    requires { ⌜ AcceptedFrom count (now src) at ⌝ }
+    ensures { λ r. ⌜ Put (now (out .entry)) 0 (lineText (headWords count) ++ linesFrom count (now (src .entry)) at) (now (out .exit)) r ⌝ }
 {
     let p = put_head(out, 0, count);
     put_members(src, at, count, out, p)
@@ -72,9 +76,10 @@ fn no_room(member: u32) -> Answer
     })
 }
 
-// The report of `count` members from `at` on. The first run only finds how long it is.
+// The report of `count` accepted members from `at` on. The first run only finds how long it is.
 fn print_measured(src: &[u8], at: usize, count: u32, out: &mut [u8]) -> Answer
-    ensures { λ r. ⌜ Printed 0 (lineText (headWords count) ++ linesFrom count (now (src .entry)) at 0) (now (out .entry)) (now (out .exit)) r ⌝ }
+    requires { ⌜ AcceptedFrom count (now src) at ⌝ }
+    ensures { λ r. ⌜ Printed 0 (lineText (headWords count) ++ linesFrom count (now (src .entry)) at) (now (out .entry)) (now (out .exit)) r ⌝ }
 {
     let mut none = [0u8; 1];
     let n = put_report(src, at, count, &mut none);
@@ -87,7 +92,8 @@ fn print_measured(src: &[u8], at: usize, count: u32, out: &mut [u8]) -> Answer
 
 // The same. No first line is longer than 19 bytes and no other than 55, so a buffer of that size needs no first run.
 fn print_report(src: &[u8], at: usize, count: u32, out: &mut [u8]) -> Answer
-    ensures { λ r. ⌜ Printed 0 (lineText (headWords count) ++ linesFrom count (now (src .entry)) at 0) (now (out .entry)) (now (out .exit)) r ⌝ }
+    requires { ⌜ AcceptedFrom count (now src) at ⌝ }
+    ensures { λ r. ⌜ Printed 0 (lineText (headWords count) ++ linesFrom count (now (src .entry)) at) (now (out .entry)) (now (out .exit)) r ⌝ }
 {
     if 19 + 55 * (count as usize) <= out.len() {
         Answer::Written(put_report(src, at, count, out))
@@ -135,8 +141,7 @@ fn print_line(mark: u32, o: Outcome, out: &mut [u8]) -> Answer
 pub fn member_report(x: Built, out: &mut [u8]) -> Answer
     ensures { λ r. ⌜ MemberReported x (now (out .entry)) (now (out .exit)) r ⌝ }
 {
-    let t = x.fields;
-    let v = t.v;
+    let v = x.fields.v;
     match built_verdict(x) {
         Verdict::Refused(q) => Answer::Refused(Refusal {
             question: q,

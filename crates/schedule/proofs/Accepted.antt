@@ -6,7 +6,7 @@ use mathlib.Core.List.{List, []}
 use native.Mathlib.Omega.{arith}
 use lib.Dec.{leb}
 use lib.ListN.{length}
-use borrow.Author.Tests.{leb-true, ltb-true}
+use borrow.Author.Tests.{leb-true, ltb-true, lt-ltb}
 use Rattle.question.specs.declared.Question.{Question}
 use Rattle.question.specs.declared.Question.the-variants.{Size, Count, Mark, Kind, Trailing}
 use Rattle.number.specs.declared.Number.{Number}
@@ -16,6 +16,7 @@ use Rattle.member.specs.Member.{Member}
 use Rattle.member.specs.Accepted.{AcceptedMember, AcceptedMembers}
 use Rattle.member.proofs.Questions.{both-true}
 use Rattle.field.specs.Fields.{fieldsOf, fieldsHold, known}
+use Rattle.field.proofs.Tables.{in-between}
 use Rattle.built.specs.declared.Built.{Built}
 use Rattle.built.specs.declared.Verdict.{Verdict}
 use Rattle.built.specs.declared.Verdict.the-variants as verdicts
@@ -27,7 +28,7 @@ use Rattle.schedule.specs.Schedule.{empty, checked, fields, whole, markR
 use Rattle.schedule.specs.Taken.{taken, tookOf}
 use Rattle.schedule.proofs.Held.{on-checked, fields-held}
 use Rattle.schedule.proofs.Taken.{fields-taken, took-got}
-use Rattle.schedule.proofs.Members.{first-read, members-length, passes}
+use Rattle.schedule.proofs.Members.{first-read, members-length, passes, number-passes}
 
 -- ---- Steps taken apart.
 
@@ -194,6 +195,15 @@ module _ (s : List ℕ) (p : ℕ) (ok : Got (member s p 0)) where
             ∙ ap (λ (m : ℕ). got (placed (made m (parts .kind) (parts .slots)) (was .value .next))) (mark-same .0)
             ∙ ap (λ (c : ℕ). got (placed (made mark c (parts .slots)) (was .value .next))) (kind-same .0)
             ∙ ap (λ (r : Placed (List ℕ)). got (placed (made mark kind (r .value)) (r .next))) (sym f)
+
+-- an accepted member is so whatever mark stands before it
+pub any-before : (s : List ℕ) (p before : ℕ) (x : Placed Built) → member s p before ≡ got x → member s p 0 ≡ got x
+unfolding member markAt markRises markInRange
+any-before s p before x e =
+    let m = went-on (checked Mark (markRises before) s p) _ x e in
+    let t = both-true (markInRange (m .value .value)) _ (passes Mark (markRises before) s p (m .value .value) (m .value .next) (m .was)) in
+    let r : markRises 0 (m .value .value) ≡ true = rw (t .0, lt-ltb 0 (m .value .value) (in-between {lo = 1} {hi = 999999} (t .0) .0)) in
+    rw (number-passes Mark (markRises 0) s p (m .value .value) (m .value .next) (number-was Mark (markRises before) s p (m .value .value) (m .value .next) (m .was)) r) (m .then)
 
 -- ---- A schedule.
 

@@ -17,13 +17,13 @@ enum-told : tie.Need-enum-told
 enum-told c = search needs
 
 check-member-requires : tie.Need-check-member-requires
-check-member-requires c κs = accepted-built _ _ _ (sym (c .before .before .built-verdict .ensures) ∙ c .enum-told .given .1)
+check-member-requires c κs = accepted-built _ _ _ (sym (c .before .before .before .built-verdict .ensures) ∙ c .before .enum-told .given .1)
 
 print-line-requires : tie.Need-print-line-requires
 print-line-requires c κs =
     let k = c .before in
-    let v = k .before .before .before in
-    line-fits (v .before .before .args .x) _ (sym (v .built-verdict .ensures) ∙ k .before .enum-told .given .1) (k .check-member .ensures)
+    let v = k .before .before .before .before in
+    line-fits (v .before .before .before .args .x) _ (sym (v .built-verdict .ensures) ∙ k .before .before .enum-told .given .1) (k .check-member .ensures)
 
 returns : tie.Need-returns
 returns c = member-refused _ _ _ (sym (c .before .before .before .built-verdict .ensures) ∙ c .before .q .given .1)
@@ -34,9 +34,9 @@ same-length c = search needs
 returns-2 : tie.Need-returns-2
 returns-2 c =
     let k = c .before .before .before .before in
-    let v = k .before .before .before in
-    member-reported (v .before .before .args .x) _ _ _ (sym (v .built-verdict .ensures) ∙ k .before .enum-told .given .1)
-    (printed-member (v .before .before .args .x) _ (k .check-member .ensures) (c .before .before .print-line .ensures))
+    let v = k .before .before .before .before in
+    member-reported (v .before .before .before .args .x) _ _ _ (sym (v .built-verdict .ensures) ∙ k .before .before .enum-told .given .1)
+    (printed-member (v .before .before .before .args .x) _ (k .check-member .ensures) (c .before .before .print-line .ensures))
 
 pub member-report-spec : {M : Type 1} → statement M
 member-report-spec =

@@ -1,6 +1,6 @@
 -- `report::report` meets its contract.
 use mathlib.Core.Path.{sym, _∙_}
-use Rattle.report.proofs.Claim.{refused, surveyed-no, surveyed-yes}
+use Rattle.report.proofs.Claim.{refused, surveyed-no, surveyed-accepted, surveyed-yes}
 use borrow.Author.Needs.{needs}
 use Rattle.report.proofs.report.Statement.{statement}
 use Rattle.report.proofs.report.Tie as tie
@@ -18,7 +18,9 @@ members-start-requires : tie.Need-members-start-requires
 members-start-requires c κs = search needs
 
 print-report-requires : tie.Need-print-report-requires
-print-report-requires c κs = search needs
+print-report-requires c κs =
+    let k = c .before in
+    surveyed-accepted _ _ _ (sym (k .before .before .count .given .1) ∙ k .before .before .before .before .survey .ensures) (k .members-start .ensures)
 
 returns : tie.Need-returns
 returns c = refused _ _ _ (surveyed-no _ _ (sym (c .before .r .given .1) ∙ c .before .before .before .survey .ensures))
