@@ -68,6 +68,7 @@ pub fn domain_holds(d: Domain, x: u32) -> bool
 fn has_group(v: &[u32; 40], count: u32, place: u32) -> bool
     ensures { λ r. ⌜ r ≡ ltb place (getD (now (v .entry)) count 0) ⌝ }
 {
+    // the length of a slice is known to the proof, that of a lent array is not
     let slots: &[u32] = v;
     let i = count as usize;
     if i < slots.len() {

@@ -14,7 +14,10 @@ use Rattle.field.proofs.list_holds.Tie as tie
 
 -- the slots as the code counts them
 in-order : (k i : ℕ) (v : List ℕ)
-    → (fieldHolds (GroupDiameter k 0) i v && (fieldHolds (GroupBars k 0) (i + 1) v && (fieldHolds (GroupDiameter k 1) (i + 2) v && (fieldHolds (GroupBars k 1) (i + 3) v && (fieldHolds (GroupDiameter k 2) (i + 4) v && (fieldHolds (GroupBars k 2) (i + 5) v && (fieldHolds (GroupDiameter k 3) (i + 6) v && (fieldHolds (GroupBars k 3) (i + 7) v && true))))))))
+    → (fieldHolds (GroupDiameter k 0) i v && (fieldHolds (GroupBars k 0) (i + 1) v
+    && (fieldHolds (GroupDiameter k 1) (i + 2) v && (fieldHolds (GroupBars k 1) (i + 3) v
+    && (fieldHolds (GroupDiameter k 2) (i + 4) v && (fieldHolds (GroupBars k 2) (i + 5) v
+    && (fieldHolds (GroupDiameter k 3) (i + 6) v && (fieldHolds (GroupBars k 3) (i + 7) v && true))))))))
     ≡ fieldsHold (groups k) i v
 in-order k i v = simp add-assoc
 
