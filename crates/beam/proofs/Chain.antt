@@ -13,7 +13,7 @@ use Rattle.section.specs.declared.Section.{Section}
 use Rattle.section.specs.Section.{M, Vd}
 use Rattle.bending.specs.Steps.{isDeep, bendingCapacity}
 use Rattle.shear.specs.Steps.{shearCapacity}
-use Rattle.service.specs.Steps.{crackWidth, widthLimit}
+use Rattle.cracking.specs.Steps.{crackWidth, widthLimit}
 use Rattle.beam.specs.Checks.{fromDeflection, fromWidth, fromSpacing, fromShear, fromBending}
 
 module _ (x : Section) (m v w l : ℕ) (o : Outcome) (p : w ≡ crackWidth x) (q : l ≡ widthLimit x) where

@@ -24,7 +24,8 @@ use Rattle.section.specs.declared.Section.{Section}
 use Rattle.section.specs.Section.{sectionOf, M, Vd}
 use Rattle.bending.specs.Steps.{leastSteel, compressionDepth, isDeep, bendingCapacity}
 use Rattle.shear.specs.Steps.{shearCapacity, linkSpacing, leastLinks}
-use Rattle.service.specs.Steps.{stressHolds, crackWidth, widthLimit, deflection, deflectionHolds}
+use Rattle.cracking.specs.Steps.{stressHolds, crackWidth, widthLimit}
+use Rattle.deflection.specs.Steps.{deflection, deflectionHolds}
 
 -- Each check, from the last to the first, with the figures before it (moment, shear, width).
 

@@ -17,26 +17,8 @@ use Rattle.bars.specs.Sums.{area, sumD, sumE, groupArea, groupDiameters, groupS
 use Rattle.section.specs.Section.{sectionOf}
 use Rattle.bending.specs.Steps.{leastSteel, compressionDepth, isDeep, deepCapacity, shallowCapacity, bendingCapacity}
 use Rattle.shear.specs.Steps.{concreteShear, linkShear, shearCapacity, shearAbove, linkSpacing, leastLinks}
-use Rattle.service.specs.Steps.{
-  stressHolds,
-  steelStress,
-  stiffening,
-  meanStress,
-  crackSpacing,
-  widthOf,
-  σ,
-  q,
-  crackWidth,
-  widthLimit,
-  flexibility,
-  curvature,
-  shortTerm,
-  longTerm,
-  deflectionOf,
-  deflection,
-  spanDivisor,
-  deflectionHolds,
-}
+use Rattle.cracking.specs.Steps.{stressHolds, steelStress, stiffening, meanStress, crackSpacing, widthOf, σ, q, crackWidth, widthLimit}
+use Rattle.deflection.specs.Steps.{flexibility, curvature, shortTerm, longTerm, deflectionOf, deflection, spanDivisor, deflectionHolds}
 use Rattle.beam.specs.Checks.{
   fromDeflection,
   fromWidth,

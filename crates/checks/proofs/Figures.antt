@@ -31,9 +31,11 @@ use Rattle.bending.proofs.Tests.{least-steel-pass}
 use Rattle.bending.proofs.Capacity as bending
 use Rattle.shear.specs.Steps.{shearCapacity, linkSpacing, leastLinks}
 use Rattle.shear.proofs.Bounds as shear
-use Rattle.service.specs.Steps.{stressHolds, σ, crackWidth, widthLimit, deflection}
-use Rattle.service.proofs.Rounded.{near-stress, near-spacing, near-width, near-flexibility, near-curvature, near-short, near-long, near-deflection}
-use Rattle.service.proofs.Safe.{σ-most, near-q}
+use Rattle.cracking.specs.Steps.{stressHolds, σ, crackWidth, widthLimit}
+use Rattle.deflection.specs.Steps.{deflection}
+use Rattle.cracking.proofs.Rounded.{near-stress, near-spacing, near-width}
+use Rattle.deflection.proofs.Rounded.{near-flexibility, near-curvature, near-short, near-long, near-deflection}
+use Rattle.cracking.proofs.Safe.{σ-most, near-q}
 use Rattle.beam.specs.Checks.{
   fromDeflection,
   fromWidth,

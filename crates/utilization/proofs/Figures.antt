@@ -15,7 +15,8 @@ use Rattle.section.specs.declared.Section.{Section}
 use Rattle.section.specs.Section.{sectionOf, M, Vd}
 use Rattle.bending.specs.Steps.{leastSteel, compressionDepth, bendingCapacity}
 use Rattle.shear.specs.Steps.{shearCapacity, linkSpacing, leastLinks}
-use Rattle.service.specs.Steps.{stressHolds, crackWidth, widthLimit, deflection}
+use Rattle.cracking.specs.Steps.{stressHolds, crackWidth, widthLimit}
+use Rattle.deflection.specs.Steps.{deflection}
 use Rattle.beam.specs.Checks.{
   fromDeflection,
   fromWidth,

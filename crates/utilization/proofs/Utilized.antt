@@ -23,8 +23,9 @@ use Rattle.section.specs.declared.Section.{Section}
 use Rattle.section.specs.Section.{sectionOf, l₀, M, Vd}
 use Rattle.section.specs.Bounded.{Bounded}
 use Rattle.section.proofs.Bounded.{bounded}
-use Rattle.service.specs.Steps.{widthLimit, spanDivisor, deflection, deflectionHolds}
-use Rattle.service.proofs.Sizes.{divisor-between}
+use Rattle.cracking.specs.Steps.{widthLimit}
+use Rattle.deflection.specs.Steps.{spanDivisor, deflection, deflectionHolds}
+use Rattle.deflection.proofs.Sizes.{divisor-between}
 use Rattle.built.specs.declared.Built.{Built}
 use Rattle.built.specs.declared.Verdict.the-variants.{Accepted, Refused}
 use Rattle.built.specs.Slots.{beamAt, columnAt, meshAt, memberAt, memberOf}

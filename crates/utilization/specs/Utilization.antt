@@ -13,7 +13,8 @@ use Rattle.outcome.specs.declared.Outcome.{Outcome}
 use Rattle.member.specs.Member.{Member, beam, column, mesh, Column, Mesh}
 use Rattle.section.specs.declared.Section.{Section}
 use Rattle.section.specs.Section.{sectionOf, l₀, M, Vd}
-use Rattle.service.specs.Steps.{widthLimit, spanDivisor}
+use Rattle.cracking.specs.Steps.{widthLimit}
+use Rattle.deflection.specs.Steps.{spanDivisor}
 use Rattle.utilization.specs.declared.Ratio.{Ratio}
 use Rattle.utilization.specs.declared.Utilization.{Utilization}
 

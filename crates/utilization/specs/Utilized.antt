@@ -10,7 +10,8 @@ use Rattle.section.specs.declared.Section.{Section}
 use Rattle.section.specs.Section.{sectionOf, M, Vd}
 use Rattle.bending.specs.Steps.{bendingCapacity}
 use Rattle.shear.specs.Steps.{shearCapacity}
-use Rattle.service.specs.Steps.{crackWidth, widthLimit, deflectionHolds}
+use Rattle.cracking.specs.Steps.{crackWidth, widthLimit}
+use Rattle.deflection.specs.Steps.{deflectionHolds}
 use Rattle.column.specs.Steps.{axialCapacity}
 use Rattle.mesh.specs.Steps.{anchorageLength, lapLength}
 use Rattle.built.specs.declared.Built.{Built}

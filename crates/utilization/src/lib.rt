@@ -15,6 +15,8 @@ use built::built_verdict;
 use built::column_of;
 use built::mesh_of;
 use checks::check_member;
+use cracking::width_limit;
+use deflection::span_divisor;
 use member::Column;
 use member::Mesh;
 use outcome::Figure;
@@ -23,8 +25,6 @@ use quantity::div_down;
 use question::Refusal;
 use section::Section;
 use section::section_of;
-use service::span_divisor;
-use service::width_limit;
 
 // Beams: moment, shear, width, deflection; columns: axial force; meshes: anchorage, lap. A value is 0.0 where its mark is false.
 #[repr(C)]
