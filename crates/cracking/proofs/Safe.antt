@@ -2,15 +2,15 @@
 use Prim.Native.Nat.{ℕ, _-_, _*_, _^_, _<_, _≤_}
 use mathlib.Core.Path.{_≡_}
 use mathlib.Core.Bool.{Bool, true, false}
-use native.Mathlib.Nat.{mul-pos, mul-le-mul-right, le-of-mul-le-mul-left}
+use native.Mathlib.Nat.{mul-pos, mul-le-mul-right}
 use native.Mathlib.Omega.{arith}
 use lib.Dec.{leb, eqb}
 use borrow.Author.Tests.{leb-true, leb-false}
 use Rattle.quantity.specs.Choice.{if_then_else_}
-use Rattle.quantity.specs.Fraction.{Frac, _//_, whole, Proper, _⊖_, _⊗_, _≼_, _≺_}
+use Rattle.quantity.specs.Fraction.{_//_, whole, Proper, _⊖_, _⊗_, _≼_, _≺_}
 use Rattle.quantity.specs.Safe.{NotBelow}
 use Rattle.quantity.proofs.Rounding.{expand, up-le}
-use Rattle.quantity.proofs.Fraction.{same-sym}
+use Rattle.quantity.proofs.Fraction.{same-sym, scale-≼}
 use Rattle.quantity.proofs.Near.{Near, near-same, near-not-below}
 use Rattle.quantity.proofs.Safe.{limit-pass, limit-fail}
 use Rattle.section.specs.declared.Section.{Section}
@@ -65,12 +65,6 @@ module _ (x : Section) (a : Bounded x) (e : stressHolds x ≡ true) where
         (near-same (same-sym (width-same x (a .Mq-least) (a .h₀-least) (a .S-least) (a .D-least))) (near-width near-q near-K))
 
 -- ---- Verdicts.
-
-pub scale-≼ : (k : ℕ) (a l : Frac) → 0 < k → whole k ⊗ a ≼ whole k ⊗ l → a ≼ l
-unfolding _⊗_
-scale-≼ k a l p h =
-    let t : k * (a .num * l .den) ≤ k * (l .num * a .den) = simp expand (omega (arith, simp expand at h)) in
-    le-of-mul-le-mul-left t p
 
 width-limit-proper : (x : Section) → Proper (whole 1000 ⊗ exactWidthLimit x)
 unfolding _⊗_ exactWidthLimit

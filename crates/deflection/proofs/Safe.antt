@@ -9,7 +9,7 @@ use borrow.Author.Tests.{leb-true, leb-false}
 use Rattle.quantity.specs.Choice.{if_then_else_}
 use Rattle.quantity.specs.Fraction.{Frac, _//_, whole, Proper, _⊖_, _⊗_, _≼_, _≺_}
 use Rattle.quantity.specs.Safe.{NotBelow}
-use Rattle.quantity.proofs.Fraction.{same-sym}
+use Rattle.quantity.proofs.Fraction.{same-sym, scale-≼}
 use Rattle.quantity.proofs.Near.{Near, near-same, near-not-below}
 use Rattle.quantity.proofs.Safe.{limit-pass, limit-fail}
 use Rattle.section.specs.declared.Section.{Section}
@@ -17,7 +17,7 @@ use Rattle.section.specs.Section.{b, h₀, l₀, W, S, S′, Mq, ftk, Ec}
 use Rattle.section.specs.Bounded.{Bounded}
 use Rattle.cracking.specs.Steps.{stressHolds, σ, q}
 use Rattle.cracking.proofs.Rounded.{stress*, stiffening*, mean*}
-use Rattle.cracking.proofs.Safe.{near-σ, near-q, scale-≼}
+use Rattle.cracking.proofs.Safe.{near-σ, near-q}
 use Rattle.deflection.specs.Steps.{flexibility, curvature, deflection, spanDivisor, deflectionHolds}
 use Rattle.deflection.specs.Exact.{exactDeflection, exactDeflectionLimit, inHundredthsOfMm, DeflectionHolds}
 use Rattle.deflection.proofs.Rounded.{flexibility*, curvature*, near-flexibility, near-curvature, near-short, near-long, near-deflection}

@@ -12,7 +12,7 @@ use lib.Seq.{drop-cons, getD-append-add}
 use borrow.Author.Tests.{leb-true, ne-eqb}
 use Rattle.quantity.proofs.Choice.{if-case}
 use Rattle.standard.proofs.Table.{every-at}
-use Rattle.member.proofs.Questions.{both-true}
+use Rattle.quantity.proofs.Choice.{both-true}
 use Rattle.field.specs.declared.Domain.{Domain}
 use Rattle.field.specs.declared.Domain.the-variants.{Range, ZeroOr, Bar, Grade, Steel, LinkSteel, GroupDiameter, GroupBars}
 use Rattle.field.specs.Domain.{between, holds, asked, fieldHolds}

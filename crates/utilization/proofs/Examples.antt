@@ -15,7 +15,8 @@ use Rattle.standard.specs.Spacing.{spacingLimit}
 use Rattle.standard.specs.Steel.{steelOf, fyvOf}
 use Rattle.question.specs.declared.Question.the-variants.{Field}
 use Rattle.bars.specs.Sums.{barCount, area, sumD, sumE, groupArea, groupDiameters, groupSquares}
-use Rattle.member.specs.Questions.{flangeFits, compressionFits, depthFits, beamRelation, beamBars, beamRatio, columnRelation, columnBars, meshRelation}
+use Rattle.relation.specs.Relation.{flangeFits, compressionFits, depthFits, beamRelation, columnRelation, meshRelation}
+use Rattle.reinforcement.specs.Reinforcement.{beamBars, beamRatio, columnBars}
 use Rattle.field.specs.Domain.{asked, holds, fieldHolds}
 use Rattle.field.specs.Fields.{fieldsOf, known}
 use Rattle.section.specs.Section.{sectionOf}

@@ -1,10 +1,10 @@
--- `member::flange_fits` meets its contract.
+-- `relation::flange_fits` meets its contract.
 use native.Mathlib.Omega.{arith}
 use borrow.Author.Tests.{eq-eqb, ne-eqb, le-leb, lt-leb}
-use Rattle.member.specs.Questions.{flangeFits}
+use Rattle.relation.specs.Relation.{flangeFits}
 use borrow.Author.Needs.{needs}
-use Rattle.member.proofs.flange_fits.Statement.{statement}
-use Rattle.member.proofs.flange_fits.Tie as tie
+use Rattle.relation.proofs.flange_fits.Statement.{statement}
+use Rattle.relation.proofs.flange_fits.Tie as tie
 
 in-millimetres-requires : tie.Need-in-millimetres-requires
 in-millimetres-requires c κs = search needs

@@ -1,9 +1,9 @@
--- `member::compression_fits` meets its contract.
+-- `relation::compression_fits` meets its contract.
 use mathlib.Core.Path.{sym, _∙_}
-use Rattle.member.specs.Questions.{compressionFits}
+use Rattle.relation.specs.Relation.{compressionFits}
 use borrow.Author.Needs.{needs}
-use Rattle.member.proofs.compression_fits.Statement.{statement}
-use Rattle.member.proofs.compression_fits.Tie as tie
+use Rattle.relation.proofs.compression_fits.Statement.{statement}
+use Rattle.relation.proofs.compression_fits.Tie as tie
 
 in-millimetres-requires : tie.Need-in-millimetres-requires
 in-millimetres-requires c κs = search needs

@@ -1,8 +1,8 @@
--- `member::column_relation` meets its contract.
-use Rattle.member.specs.Questions.{columnRelation}
+-- `relation::column_relation` meets its contract.
+use Rattle.relation.specs.Relation.{columnRelation}
 use borrow.Author.Needs.{needs}
-use Rattle.member.proofs.column_relation.Statement.{statement}
-use Rattle.member.proofs.column_relation.Tie as tie
+use Rattle.relation.proofs.column_relation.Statement.{statement}
+use Rattle.relation.proofs.column_relation.Tie as tie
 
 in-millimetres-requires : tie.Need-in-millimetres-requires
 in-millimetres-requires c κs = search needs
@@ -12,7 +12,7 @@ in-millimetres-requires-2 c κs = search needs
 
 returns : tie.Need-returns
 unfolding columnRelation
-returns c = cc
+returns c = rw (c .in-millimetres2 .ensures, c .before .in-millimetres .ensures)
 
 pub column-relation-spec : {M : Type 1} → statement M
 column-relation-spec =

@@ -1,8 +1,8 @@
--- `member::no_groups` meets its contract.
+-- `relation::no_groups` meets its contract.
 use borrow.Author.Needs.{needs}
-use Rattle.member.proofs.Questions.{none-taken}
-use Rattle.member.proofs.no_groups.Statement.{statement}
-use Rattle.member.proofs.no_groups.Tie as tie
+use Rattle.relation.proofs.Relation.{none-taken}
+use Rattle.relation.proofs.no_groups.Statement.{statement}
+use Rattle.relation.proofs.no_groups.Tie as tie
 
 returns : tie.Need-returns
 returns c = none-taken (c .args .count) (c .args .groups) (search needs)

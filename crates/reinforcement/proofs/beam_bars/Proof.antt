@@ -1,8 +1,8 @@
--- `member::beam_bars` meets its contract.
-use Rattle.member.specs.Questions.{beamBars}
+-- `reinforcement::beam_bars` meets its contract.
+use Rattle.reinforcement.specs.Reinforcement.{beamBars}
 use borrow.Author.Needs.{needs}
-use Rattle.member.proofs.beam_bars.Statement.{statement}
-use Rattle.member.proofs.beam_bars.Tie as tie
+use Rattle.reinforcement.proofs.beam_bars.Statement.{statement}
+use Rattle.reinforcement.proofs.beam_bars.Tie as tie
 
 bar-count-requires : tie.Need-bar-count-requires
 bar-count-requires c κs = search needs
@@ -15,7 +15,7 @@ both-requires c κs = search needs
 
 returns : tie.Need-returns
 unfolding beamBars
-returns c = cc
+returns c = rw (c .both .ensures, c .before .bar-count2 .ensures, c .before .before .bar-count .ensures)
 
 pub beam-bars-spec : {M : Type 1} → statement M
 beam-bars-spec = tie.close (tie.spec bar-count-requires bar-count-requires-2 both-requires returns)

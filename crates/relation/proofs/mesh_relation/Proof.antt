@@ -1,8 +1,8 @@
--- `member::mesh_relation` meets its contract.
-use Rattle.member.specs.Questions.{meshRelation}
+-- `relation::mesh_relation` meets its contract.
+use Rattle.relation.specs.Relation.{meshRelation}
 use borrow.Author.Needs.{needs}
-use Rattle.member.proofs.mesh_relation.Statement.{statement}
-use Rattle.member.proofs.mesh_relation.Tie as tie
+use Rattle.relation.proofs.mesh_relation.Statement.{statement}
+use Rattle.relation.proofs.mesh_relation.Tie as tie
 
 either-requires : tie.Need-either-requires
 either-requires c κs = search needs

@@ -1,14 +1,14 @@
--- `member::beam_ratio` meets its contract.
-use Rattle.member.proofs.Questions.{few-bars}
+-- `reinforcement::beam_ratio` meets its contract.
+use Rattle.reinforcement.proofs.Reinforcement.{few-bars}
 use Rattle.member.specs.Member.{beamOf}
 use Prim.Native.Nat.{_*_}
 use native.Mathlib.Nat.{mul-le-mul}
 use Rattle.bars.proofs.Groups.{area-most-by-bars}
 use native.Mathlib.Omega.{arith}
-use Rattle.member.specs.Questions.{beamRatio}
+use Rattle.reinforcement.specs.Reinforcement.{beamRatio}
 use borrow.Author.Needs.{needs}
-use Rattle.member.proofs.beam_ratio.Statement.{statement}
-use Rattle.member.proofs.beam_ratio.Tie as tie
+use Rattle.reinforcement.proofs.beam_ratio.Statement.{statement}
+use Rattle.reinforcement.proofs.beam_ratio.Tie as tie
 
 in-millimetres-requires : tie.Need-in-millimetres-requires
 in-millimetres-requires c κs = search needs
@@ -36,7 +36,8 @@ mul-result-3 c = omega (arith, mul-le-mul {n₁ = 2 * c .before .before .before 
 
 returns : tie.Need-returns
 unfolding beamRatio
-returns c = cc
+returns c =
+    rw (c .in-millimetres2 .ensures, c .before .effective-depth .ensures, c .before .before .steel-area .ensures, c .before .before .before .before .in-millimetres .ensures)
 
 pub beam-ratio-spec : {M : Type 1} → statement M
 beam-ratio-spec =

@@ -1,11 +1,10 @@
--- Questions 8, 9 and 10 (document 01, "Questions before any check"), put to a whole member.
+-- Question 8 (document 01, "Questions before any check"), put to a whole member.
 use Prim.Native.Nat.{_+_, _*_}
 use mathlib.Core.Bool.{Bool, _&&_, _||_}
 use lib.Dec.{leb, ltb, eqb}
 use lib.ListN.{length}
 use Rattle.quantity.specs.Choice.{if_then_else_}
 use Rattle.member.specs.Member.{Beam, Column, Mesh, h₀}
-use Rattle.bars.specs.Sums.{barCount, area}
 
 -- 8: bf ≥ b; hf = 0 if bf = b, else 1 ≤ hf ≤ h/2
 unfoldable pub flangeFits : Beam → Bool
@@ -29,14 +28,3 @@ columnRelation x = leb (x .b) (x .h)
 -- 8: apart = 0 unless cross bar = 0
 unfoldable pub meshRelation : Mesh → Bool
 meshRelation x = eqb (x .apart) 0 || eqb (x .cross) 0
-
--- 9: at most 40 bars on each face of a beam, 40 in a column
-unfoldable pub beamBars : Beam → Bool
-beamBars x = leb (barCount (x .tension)) 40 && leb (barCount (x .compression)) 40
-
-unfoldable pub columnBars : Column → Bool
-columnBars x = leb (barCount (x .groups)) 40
-
--- 10: 5·S ≤ 2·b·h0
-unfoldable pub beamRatio : Beam → Bool
-beamRatio x = leb (5 * area (x .tension)) (2 * x .b * h₀ x)

@@ -1,8 +1,8 @@
--- `member::beam_relation` meets its contract.
-use Rattle.member.specs.Questions.{beamRelation}
+-- `relation::beam_relation` meets its contract.
+use Rattle.relation.specs.Relation.{beamRelation}
 use borrow.Author.Needs.{needs}
-use Rattle.member.proofs.beam_relation.Statement.{statement}
-use Rattle.member.proofs.beam_relation.Tie as tie
+use Rattle.relation.proofs.beam_relation.Statement.{statement}
+use Rattle.relation.proofs.beam_relation.Tie as tie
 
 flange-fits-requires : tie.Need-flange-fits-requires
 flange-fits-requires c κs = search needs
@@ -21,7 +21,9 @@ both-requires-2 c κs = search needs
 
 returns : tie.Need-returns
 unfolding beamRelation
-returns c = cc
+returns c =
+    let k = c .before .before in
+    rw (c .both2 .ensures, c .before .both .ensures, k .depth-fits .ensures, k .before .compression-fits .ensures, k .before .before .flange-fits .ensures)
 
 pub beam-relation-spec : {M : Type 1} → statement M
 beam-relation-spec =

@@ -1,31 +1,16 @@
--- Questions 8 to 10: what a yes says.
+-- Question 8: what a yes says.
 use Prim.Native.Nat.{ℕ, zero, suc, _+_, _-_, _*_, _≤_, _<_}
 use mathlib.Core.Path.{_≡_, refl, sym, ap, _∙_}
-use mathlib.Core.Bool.{Bool, true, false, _&&_, _||_, false≢true, or-false}
+use mathlib.Core.Bool.{Bool, true, _||_, false≢true, or-false}
 use mathlib.Core.List.{List, [], _∷_}
 use native.Mathlib.Omega.{arith}
 use lib.Dec.{eqb, leb, ltb}
 use lib.ListN.{length, take}
 use borrow.Author.Tests.{leb-true, ltb-true, eqb-true, eq-eqb, ne-eqb}
-use Rattle.quantity.proofs.Choice.{if-case}
+use Rattle.quantity.proofs.Choice.{if-case, both-true}
 use Rattle.bars.specs.declared.Group.{Group}
 use Rattle.member.specs.Member.{Beam, Column, Mesh, h₀}
-use Rattle.bars.specs.Sums.{barCount, area}
-use Rattle.member.specs.Questions.{
-  flangeFits,
-  compressionFits,
-  depthFits,
-  beamRelation,
-  columnRelation,
-  beamBars,
-  columnBars,
-  beamRatio,
-  meshRelation,
-}
-
-pub both-true : (a b : Bool) → (a && b) ≡ true → (a ≡ true) × (b ≡ true)
-both-true true b e = (refl, e)
-both-true false b e = absurd (false≢true e)
+use Rattle.relation.specs.Relation.{flangeFits, compressionFits, depthFits, beamRelation, columnRelation, meshRelation}
 
 -- of four places, a count of 0 takes none, and no other does
 pub none-taken : (n : ℕ) (gs : List Group) → length gs ≡ 4 → eqb n 0 ≡ eqb (length (take n gs)) 0
@@ -83,27 +68,10 @@ module _ (x : Beam) where
         slender = d .2;
       }
 
-  -- 9
-  pub few-bars : beamBars x ≡ true → (barCount (x .tension) ≤ 40) × (barCount (x .compression) ≤ 40)
-  unfolding beamBars
-  few-bars e =
-      let t = both-true (leb (barCount (x .tension)) 40) _ e in
-      (leb-true _ _ (t .0), leb-true _ _ (t .1))
-
-  -- 10
-  pub ratio : beamRatio x ≡ true → 5 * area (x .tension) ≤ 2 * x .b * h₀ x
-  unfolding beamRatio
-  ratio e = leb-true _ _ e
-
-module _ (x : Column) where
-  -- 8 and 9 of a column
-  pub column-order : columnRelation x ≡ true → x .b ≤ x .h
-  unfolding columnRelation
-  column-order e = leb-true _ _ e
-
-  pub column-few-bars : columnBars x ≡ true → barCount (x .groups) ≤ 40
-  unfolding columnBars
-  column-few-bars e = leb-true _ _ e
+-- 8 of a column
+pub column-order : (x : Column) → columnRelation x ≡ true → x .b ≤ x .h
+unfolding columnRelation
+column-order x e = leb-true _ _ e
 
 -- 8 of a mesh
 pub apart-alone : (x : Mesh) → meshRelation x ≡ true → 1 ≤ x .cross → x .apart ≡ 0

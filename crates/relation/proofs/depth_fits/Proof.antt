@@ -1,9 +1,9 @@
--- `member::depth_fits` meets its contract.
+-- `relation::depth_fits` meets its contract.
 use native.Mathlib.Omega.{arith}
-use Rattle.member.specs.Questions.{depthFits}
+use Rattle.relation.specs.Relation.{depthFits}
 use borrow.Author.Needs.{needs}
-use Rattle.member.proofs.depth_fits.Statement.{statement}
-use Rattle.member.proofs.depth_fits.Tie as tie
+use Rattle.relation.proofs.depth_fits.Statement.{statement}
+use Rattle.relation.proofs.depth_fits.Tie as tie
 
 in-millimetres-requires : tie.Need-in-millimetres-requires
 in-millimetres-requires c κs = search needs
@@ -43,7 +43,11 @@ both-requires-2 c κs = search needs
 
 returns : tie.Need-returns
 unfolding depthFits
-returns c = cc
+returns c =
+    let s = c .before .before in
+    let d = s .before .before in
+    let f = d .before .before in
+    rw (c .both2 .ensures, c .before .both .ensures, s .in-millimetres6 .ensures, s .before .effective-depth .ensures, d .in-millimetres5 .ensures, d .before .in-millimetres4 .ensures, f .in-millimetres3 .ensures, f .before .in-millimetres2 .ensures, f .before .before .in-millimetres .ensures)
 
 pub depth-fits-spec : {M : Type 1} → statement M
 depth-fits-spec =
