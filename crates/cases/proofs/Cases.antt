@@ -33,7 +33,9 @@ use Rattle.beam.specs.Checks.{
 }
 use Rattle.column.specs.Steps.{steelFits, linksFit, slendernessFits, concreteArea, squashLoad, axialCapacity, axialOutcome, slendernessOutcome, linksOutcome, columnOutcome}
 use Rattle.stability.specs.Steps.{interval, between, stability}
-use Rattle.mesh.specs.Steps.{basicLength, anchorageLength, tensionLap, requiredLap, lapLength, lapOutcome, meshOutcome}
+use Rattle.anchorage.specs.Steps.{basicLength, anchorageLength}
+use Rattle.lap.specs.Steps.{tensionLap, requiredLap, lapLength}
+use Rattle.mesh.specs.Checks.{lapOutcome, meshOutcome}
 use Rattle.checks.specs.Outcome.{outcomeOf}
 
 -- The three members of the printed schedule: the beam with its link spacing and shear, the column with its

@@ -51,8 +51,10 @@ use Rattle.beam.specs.Checks.{
 use Rattle.column.specs.Steps.{grossArea, steelArea, steelFits, linksFit, slendernessFits, concreteArea, squashLoad, axialCapacity, axialOutcome, slendernessOutcome, linksOutcome, columnOutcome}
 use Rattle.stability.specs.Steps.{interval, between, stability}
 use Rattle.column.proofs.Bounds.{gross-most, steel-most}
-use Rattle.mesh.specs.Steps.{pairedTenths, apartTenths, basicLength, anchorageLength, lapRow, tensionLap, requiredLap, lapLength, lapOutcome, meshOutcome}
-use Rattle.mesh.proofs.Bounds.{plain}
+use Rattle.anchorage.specs.Steps.{pairedTenths, apartTenths, basicLength, anchorageLength}
+use Rattle.lap.specs.Steps.{lapRow, tensionLap, requiredLap, lapLength}
+use Rattle.mesh.specs.Checks.{lapOutcome, meshOutcome}
+use Rattle.anchorage.proofs.Bounds.{plain}
 use Rattle.checks.specs.Outcome.{outcomeOf}
 
 pub record Short (o : Outcome) : Type 0 where

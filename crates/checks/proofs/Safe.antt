@@ -9,7 +9,7 @@ use Rattle.member.specs.Member.{Member, beam, column, mesh, Beam, Column, Mesh}
 use borrow.Author.Tests.{ne-eqb}
 use Rattle.member.specs.Accepted.{AcceptedMember, AcceptedBeam, AcceptedColumn, AcceptedMesh}
 use Rattle.built.specs.Slots.{memberAt, beamAt, columnAt, meshAt}
-use Rattle.mesh.specs.Steps.{meshOutcome}
+use Rattle.mesh.specs.Checks.{meshOutcome}
 use Rattle.column.specs.Steps.{columnOutcome}
 use Rattle.beam.specs.Checks.{beamOutcome}
 use Rattle.mesh.proofs.Safe.{mesh-safe}

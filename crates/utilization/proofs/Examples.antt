@@ -38,7 +38,9 @@ use Rattle.beam.specs.Checks.{
 }
 use Rattle.column.specs.Steps.{steelFits, linksFit, slendernessFits, concreteArea, squashLoad, axialCapacity, axialOutcome, slendernessOutcome, linksOutcome, columnOutcome}
 use Rattle.stability.specs.Steps.{interval, between, stability}
-use Rattle.mesh.specs.Steps.{basicLength, anchorageLength, tensionLap, requiredLap, lapLength, lapOutcome, meshOutcome}
+use Rattle.anchorage.specs.Steps.{basicLength, anchorageLength}
+use Rattle.lap.specs.Steps.{tensionLap, requiredLap, lapLength}
+use Rattle.mesh.specs.Checks.{lapOutcome, meshOutcome}
 use Rattle.built.specs.declared.Built.{Built}
 use Rattle.built.specs.Slots.{beamAt, columnAt, meshAt, memberAt}
 use Rattle.built.specs.Verdict.{beamVerdict, columnVerdict, meshVerdict, memberVerdict, markInRange, builtVerdict}

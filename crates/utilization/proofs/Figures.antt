@@ -30,7 +30,9 @@ use Rattle.beam.specs.Checks.{
   beamOutcome,
 }
 use Rattle.column.specs.Steps.{steelFits, linksFit, slendernessFits, axialCapacity, axialOutcome, slendernessOutcome, linksOutcome, columnOutcome}
-use Rattle.mesh.specs.Steps.{anchorageLength, lapLength, lapOutcome, meshOutcome}
+use Rattle.anchorage.specs.Steps.{anchorageLength}
+use Rattle.lap.specs.Steps.{lapLength}
+use Rattle.mesh.specs.Checks.{lapOutcome, meshOutcome}
 use Rattle.checks.proofs.Figures.{Short}
 use Rattle.utilization.specs.Utilization.{ExactFigure, ExactFigures}
 

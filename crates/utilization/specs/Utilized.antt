@@ -13,7 +13,8 @@ use Rattle.shear.specs.Steps.{shearCapacity}
 use Rattle.cracking.specs.Steps.{crackWidth, widthLimit}
 use Rattle.deflection.specs.Steps.{deflectionHolds}
 use Rattle.column.specs.Steps.{axialCapacity}
-use Rattle.mesh.specs.Steps.{anchorageLength, lapLength}
+use Rattle.anchorage.specs.Steps.{anchorageLength}
+use Rattle.lap.specs.Steps.{lapLength}
 use Rattle.built.specs.declared.Built.{Built}
 use Rattle.built.specs.declared.Verdict.{Verdict}
 use Rattle.built.specs.declared.Verdict.the-variants as verdicts

@@ -4,7 +4,7 @@ use mathlib.Core.Path.{_≡_}
 use native.Mathlib.Nat.{mul-le-mul}
 use native.Mathlib.Decide.{decLe}
 use native.Mathlib.Omega.{arith}
-use Rattle.mesh.specs.Steps.{seismicHundredths}
+use Rattle.anchorage.specs.Steps.{seismicHundredths}
 
 -- the products of 5.2.5, one factor after the other
 pub record Plain (m d p a : ℕ) : Type 0 where

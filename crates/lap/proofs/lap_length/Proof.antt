@@ -1,8 +1,8 @@
--- `mesh::lap_length` meets its contract.
-use Rattle.mesh.specs.Steps.{lapLength}
+-- `lap::lap_length` meets its contract.
+use Rattle.lap.specs.Steps.{lapLength}
 use borrow.Author.Needs.{needs}
-use Rattle.mesh.proofs.lap_length.Statement.{statement}
-use Rattle.mesh.proofs.lap_length.Tie as tie
+use Rattle.lap.proofs.lap_length.Statement.{statement}
+use Rattle.lap.proofs.lap_length.Tie as tie
 
 required-lap-requires : tie.Need-required-lap-requires
 required-lap-requires c κs = search needs

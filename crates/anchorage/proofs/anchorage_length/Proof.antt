@@ -1,8 +1,8 @@
--- `mesh::anchorage_length` meets its contract.
-use Rattle.mesh.specs.Steps.{anchorageLength}
+-- `anchorage::anchorage_length` meets its contract.
+use Rattle.anchorage.specs.Steps.{anchorageLength}
 use borrow.Author.Needs.{needs}
-use Rattle.mesh.proofs.anchorage_length.Statement.{statement}
-use Rattle.mesh.proofs.anchorage_length.Tie as tie
+use Rattle.anchorage.proofs.anchorage_length.Statement.{statement}
+use Rattle.anchorage.proofs.anchorage_length.Tie as tie
 
 basic-length-requires : tie.Need-basic-length-requires
 basic-length-requires c κs = search needs

@@ -1,8 +1,8 @@
--- `mesh::required_lap` meets its contract.
-use Rattle.mesh.specs.Steps.{requiredLap}
+-- `lap::required_lap` meets its contract.
+use Rattle.lap.specs.Steps.{requiredLap}
 use borrow.Author.Needs.{needs}
-use Rattle.mesh.proofs.required_lap.Statement.{statement}
-use Rattle.mesh.proofs.required_lap.Tie as tie
+use Rattle.lap.proofs.required_lap.Statement.{statement}
+use Rattle.lap.proofs.required_lap.Tie as tie
 
 tension-lap-requires : tie.Need-tension-lap-requires
 tension-lap-requires c κs = search needs
@@ -21,7 +21,7 @@ chosen-requires c κs = search needs
 
 returns : tie.Need-returns
 unfolding requiredLap
-returns c = cc
+returns c = rw (c .chosen .ensures .0, c .before .larger .ensures, c .before .before .before .tension-lap .ensures .0)
 
 pub required-lap-spec : {M : Type 1} → statement M
 required-lap-spec =

@@ -1,9 +1,9 @@
--- `mesh::seismic_factor` meets its contract.
+-- `anchorage::seismic_factor` meets its contract.
 use borrow.Author.Tests.{ne-eqb}
 use native.Mathlib.Omega.{arith}
-use Rattle.mesh.proofs.Bounds.{seismic-high}
-use Rattle.mesh.proofs.seismic_factor.Statement.{statement}
-use Rattle.mesh.proofs.seismic_factor.Tie as tie
+use Rattle.anchorage.proofs.Bounds.{seismic-high}
+use Rattle.anchorage.proofs.seismic_factor.Statement.{statement}
+use Rattle.anchorage.proofs.seismic_factor.Tie as tie
 
 returns : tie.Need-returns
 returns c = (rw (c .match .keys1), omega arith)

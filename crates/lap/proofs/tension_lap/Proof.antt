@@ -1,9 +1,9 @@
--- `mesh::tension_lap` meets its contract.
+-- `lap::tension_lap` meets its contract.
 use native.Mathlib.Omega.{arith}
-use Rattle.mesh.specs.Steps.{tensionLap}
+use Rattle.lap.specs.Steps.{tensionLap}
 use borrow.Author.Needs.{needs}
-use Rattle.mesh.proofs.tension_lap.Statement.{statement}
-use Rattle.mesh.proofs.tension_lap.Tie as tie
+use Rattle.lap.proofs.tension_lap.Statement.{statement}
+use Rattle.lap.proofs.tension_lap.Tie as tie
 
 chosen-requires : tie.Need-chosen-requires
 chosen-requires c κs = search needs
@@ -40,7 +40,11 @@ add-result c = search needs
 
 returns : tie.Need-returns
 unfolding tensionLap
-returns c = (cc, omega arith)
+returns c =
+    let k = c .before .before .before in (
+      rw (c .larger .ensures, c .before .chosen2 .ensures .0, c .before .before .in-millimetres .ensures, k .basic-length .ensures .0, k .before .lap-row .ensures .0, k .before .before .chosen .ensures .0),
+      omega arith,
+    )
 
 pub tension-lap-spec : {M : Type 1} → statement M
 tension-lap-spec =

@@ -1,13 +1,13 @@
--- `mesh::basic_length` meets its contract.
+-- `anchorage::basic_length` meets its contract.
 use Prim.Native.Nat.{_*_, _≤_}
 use native.Mathlib.Nat.{mul-le-mul}
 use native.Mathlib.Omega.{arith}
 use Rattle.standard.proofs.Mesh.{multiple-between}
-use Rattle.mesh.specs.Steps.{basicLength}
-use Rattle.mesh.proofs.Bounds.{Plain, plain}
+use Rattle.anchorage.specs.Steps.{basicLength}
+use Rattle.anchorage.proofs.Bounds.{Plain, plain}
 use borrow.Author.Needs.{needs}
-use Rattle.mesh.proofs.basic_length.Statement.{statement}
-use Rattle.mesh.proofs.basic_length.Tie as tie
+use Rattle.anchorage.proofs.basic_length.Statement.{statement}
+use Rattle.anchorage.proofs.basic_length.Tie as tie
 
 multiple : (c : tie.After-multiple-of) → c .multiple-of .result ≤ 60
 multiple c =
@@ -58,7 +58,11 @@ mul-result c = omega (arith, whole-size c)
 
 returns : tie.Need-returns
 unfolding basicLength
-returns c = (cc, whole-size c)
+returns c =
+    let k = c .before .before .before in (
+      rw (c .seismic-factor .ensures .0, c .before .larger .ensures, c .before .before .in-millimetres .ensures, k .chosen2 .ensures .0, k .before .chosen .ensures .0, k .before .before .before .multiple-of .ensures),
+      whole-size c,
+    )
 
 pub basic-length-spec : {M : Type 1} → statement M
 basic-length-spec =

@@ -1,8 +1,8 @@
--- `mesh::lap_row` meets its contract.
+-- `lap::lap_row` meets its contract.
 use borrow.Author.Tests.{eq-eqb, ne-eqb}
 use native.Mathlib.Omega.{arith}
-use Rattle.mesh.proofs.lap_row.Statement.{statement}
-use Rattle.mesh.proofs.lap_row.Tie as tie
+use Rattle.lap.proofs.lap_row.Statement.{statement}
+use Rattle.lap.proofs.lap_row.Tie as tie
 
 returns : tie.Need-returns
 returns c = (simp (eq-eqb _ _ (c .if1 .taken)), omega arith)
