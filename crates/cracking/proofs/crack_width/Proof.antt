@@ -15,7 +15,9 @@ width-of-requires c κs = search needs
 
 returns : tie.Need-returns
 unfolding crackWidth
-returns c = cc
+returns c =
+    let k = c .before .before in
+    rw (c .width-of .ensures, c .before .crack-spacing-of .ensures .0, k .weighted-area .ensures .0, k .before .pre .2)
 
 pub crack-width-spec : {M : Type 1} → statement M
 crack-width-spec =

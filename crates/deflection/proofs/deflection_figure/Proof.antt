@@ -26,7 +26,13 @@ div-up-requires c κs = search needs
 returns : tie.Need-returns
 unfolding deflection deflectionOf
 returns c =
-    (cc, rw (c .div-up .ensures) (deflection-most _ _ (c .before .before .short-term-of .ensures .1) (c .before .long-term-of .ensures .1)))
+    let l = c .before in
+    let s = l .before in
+    let k = s .before in
+    (
+      rw (c .div-up .ensures, l .long-term-of .ensures .0, s .short-term-of .ensures .0, k .section-curvature .ensures .0, k .before .pre .1, k .before .pre .3),
+      rw (c .div-up .ensures) (deflection-most _ _ (s .short-term-of .ensures .1) (l .long-term-of .ensures .1)),
+    )
 
 pub deflection-figure-spec : {M : Type 1} → statement M
 deflection-figure-spec =
