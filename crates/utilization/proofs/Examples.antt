@@ -44,11 +44,12 @@ use Rattle.mesh.specs.Checks.{lapOutcome, meshOutcome}
 use Rattle.built.specs.declared.Built.{Built}
 use Rattle.built.specs.Slots.{beamAt, columnAt, meshAt, memberAt}
 use Rattle.built.specs.Verdict.{beamVerdict, columnVerdict, meshVerdict, memberVerdict, markInRange, builtVerdict}
-use Rattle.utilization.specs.declared.Utilization.{Utilization}
+use Rattle.ratio.specs.declared.Utilization.{Utilization}
 use Rattle.utilization.specs.declared.Answer.the-variants.{Given, Refused}
-use Rattle.utilization.specs.declared.Governing.the-variants.{Largest, None}
-use Rattle.utilization.specs.Utilization.{nought, quotient, noRatio, ratio, overFigure, overLimit, four, deflectionLimit, beamUtilization, columnUtilization, meshUtilization}
-use Rattle.utilization.specs.Governing.{governingOf}
+use Rattle.governing.specs.declared.Governing.the-variants.{Largest, None}
+use Rattle.ratio.specs.Ratio.{nought, quotient, noRatio, ratio, overFigure, overLimit, four}
+use Rattle.utilization.specs.Utilization.{deflectionLimit, beamUtilization, columnUtilization, meshUtilization}
+use Rattle.governing.specs.Governing.{governingOf}
 use Rattle.utilization.specs.Utilized.{answerOf}
 
 -- of 40 slots, those past the fields 0

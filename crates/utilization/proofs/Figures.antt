@@ -1,6 +1,6 @@
 -- Which figure of an outcome stands at each place, and that a cast of it loses nothing.
-use Prim.Native.Nat.{ℕ, _^_}
-use mathlib.Core.Path.{_≡_, refl}
+use Prim.Native.Nat.{_^_}
+use mathlib.Core.Path.{refl}
 use native.Mathlib.Omega.{arith}
 use lib.Dec.{leb}
 use Rattle.quantity.proofs.Choice.{if-case}
@@ -34,7 +34,8 @@ use Rattle.anchorage.specs.Steps.{anchorageLength}
 use Rattle.lap.specs.Steps.{lapLength}
 use Rattle.mesh.specs.Checks.{lapOutcome, meshOutcome}
 use Rattle.checks.proofs.Figures.{Short}
-use Rattle.utilization.specs.Utilization.{ExactFigure, ExactFigures}
+use Rattle.ratio.specs.Ratio.{ExactFigure, ExactFigures}
+use Rattle.ratio.proofs.Nearest.{Is}
 
 exact-figure : (f : Figure) → Below (10 ^ 9) f → ExactFigure f
 exact-figure (Reached v) h = omega arith
@@ -48,11 +49,6 @@ exact-figures o s =
       third = exact-figure (o .third) (s .third);
       fourth = exact-figure (o .fourth) (s .fourth);
     }
-
--- a figure, where it was reached, is n
-abbrev pub Is : ℕ → Figure → Type 0
-Is n (Reached v) = v ≡ n
-Is n Unreached = Unit {0}
 
 pub record BeamFigures (x : Section) (o : Outcome) : Type 0 where
   pub moment : Is (bendingCapacity x) (o .first)

@@ -1,8 +1,8 @@
--- `utilization::no_ratio` meets its contract.
+-- `ratio::no_ratio` meets its contract.
 use mathlib.Core.Path.{refl}
 use lib.Ieee.{ofBits}
-use Rattle.utilization.proofs.no_ratio.Statement.{statement}
-use Rattle.utilization.proofs.no_ratio.Tie as tie
+use Rattle.ratio.proofs.no_ratio.Statement.{statement}
+use Rattle.ratio.proofs.no_ratio.Tie as tie
 
 returns : tie.Need-returns
 unfolding ofBits

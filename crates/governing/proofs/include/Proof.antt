@@ -1,7 +1,7 @@
--- `utilization::include` meets its contract.
+-- `governing::include` meets its contract.
 use borrow.Author.Needs.{needs}
-use Rattle.utilization.proofs.include.Statement.{statement}
-use Rattle.utilization.proofs.include.Tie as tie
+use Rattle.governing.proofs.include.Statement.{statement}
+use Rattle.governing.proofs.include.Tie as tie
 
 enum-known-g : tie.Need-enum-known-g
 enum-known-g c = search needs

@@ -1,11 +1,11 @@
--- `utilization::divided` meets its contract.
+-- `ratio::divided` meets its contract.
 use mathlib.Core.Path.{refl}
 use borrow.Author.Needs.{needs}
 use lib.Dec.{le→leb}
 use lib.Ieee.{inFloat}
-use Rattle.utilization.specs.Utilization.{quotient}
-use Rattle.utilization.proofs.divided.Statement.{statement}
-use Rattle.utilization.proofs.divided.Tie as tie
+use Rattle.ratio.specs.Ratio.{quotient}
+use Rattle.ratio.proofs.divided.Statement.{statement}
+use Rattle.ratio.proofs.divided.Tie as tie
 
 int-to-float-result : tie.Need-int-to-float-result
 unfolding inFloat

@@ -4,10 +4,10 @@ use mathlib.Core.Bool.{Bool, true, false}
 use mathlib.Core.List.{List, [], _∷_}
 use lib.Ieee.{Float, lt}
 use Rattle.quantity.specs.Choice.{if_then_else_}
-use Rattle.utilization.specs.declared.Ratio.{Ratio}
-use Rattle.utilization.specs.declared.Utilization.{Utilization}
-use Rattle.utilization.specs.declared.Governing.{Governing}
-use Rattle.utilization.specs.declared.Governing.the-variants.{Largest, None}
+use Rattle.ratio.specs.declared.Ratio.{Ratio}
+use Rattle.ratio.specs.declared.Utilization.{Utilization}
+use Rattle.governing.specs.declared.Governing.{Governing}
+use Rattle.governing.specs.declared.Governing.the-variants.{Largest, None}
 
 -- one more, which counts where it was reached
 abbrev pub including : Governing → Bool → Float → Governing

@@ -13,12 +13,12 @@ use lib.Ieee.Order.{le-of-values}
 use lib.Ieee.Positive.{num, den, den-pos, through}
 use borrow.Author.Tests.{ltb-true, ltb-false}
 use Rattle.quantity.specs.Choice.{if_then_else_}
-use Rattle.utilization.specs.declared.Ratio.{Ratio}
-use Rattle.utilization.specs.declared.Utilization.{Utilization}
-use Rattle.utilization.specs.declared.Governing.{Governing}
-use Rattle.utilization.specs.declared.Governing.the-variants.{Largest, None}
-use Rattle.utilization.specs.Governing.{including, governingFrom, ratiosOf, governingOf}
-use Rattle.utilization.proofs.Division.{fair}
+use Rattle.ratio.specs.declared.Ratio.{Ratio}
+use Rattle.ratio.specs.declared.Utilization.{Utilization}
+use Rattle.governing.specs.declared.Governing.{Governing}
+use Rattle.governing.specs.declared.Governing.the-variants.{Largest, None}
+use Rattle.governing.specs.Governing.{including, governingFrom, ratiosOf, governingOf}
+use Rattle.ratio.proofs.Division.{fair}
 
 -- x is the value of one that was reached
 abbrev pub Among : List Ratio → Float → Type 0

@@ -15,7 +15,7 @@ use lib.Ieee.Scale.{round-same, finite, grid, round-under, round-val}
 use lib.Ieee.Order.{round-mono}
 use lib.Ieee.Positive.{positive, positive-of-value, between, le-trans-positive}
 use borrow.Author.Tests.{ne-eqb, leb-true, leb-false}
-use Rattle.utilization.specs.Utilization.{nought, one, quotient, nearest}
+use Rattle.ratio.specs.Ratio.{nought, one, quotient, nearest}
 
 -- ---- The nearest double.
 

@@ -1,7 +1,7 @@
--- `utilization::governing_of` meets its contract.
+-- `governing::governing_of` meets its contract.
 use borrow.Author.Needs.{needs}
-use Rattle.utilization.proofs.governing_of.Statement.{statement}
-use Rattle.utilization.proofs.governing_of.Tie as tie
+use Rattle.governing.proofs.governing_of.Statement.{statement}
+use Rattle.governing.proofs.governing_of.Tie as tie
 
 include-requires : tie.Need-include-requires
 include-requires c κs = search needs

@@ -1,8 +1,8 @@
--- `utilization::over_limit` meets its contract.
-use Rattle.utilization.specs.Utilization.{overLimit}
+-- `ratio::over_limit` meets its contract.
+use Rattle.ratio.specs.Ratio.{overLimit}
 use borrow.Author.Needs.{needs}
-use Rattle.utilization.proofs.over_limit.Statement.{statement}
-use Rattle.utilization.proofs.over_limit.Tie as tie
+use Rattle.ratio.proofs.over_limit.Statement.{statement}
+use Rattle.ratio.proofs.over_limit.Tie as tie
 
 enum-known-f : tie.Need-enum-known-f
 enum-known-f c = search needs

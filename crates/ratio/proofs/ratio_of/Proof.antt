@@ -1,9 +1,9 @@
--- `utilization::ratio_of` meets its contract.
+-- `ratio::ratio_of` meets its contract.
 use borrow.Author.Tests.{eq-eqb, ne-eqb}
-use Rattle.utilization.specs.Utilization.{ratio}
+use Rattle.ratio.specs.Ratio.{ratio}
 use borrow.Author.Needs.{needs}
-use Rattle.utilization.proofs.ratio_of.Statement.{statement}
-use Rattle.utilization.proofs.ratio_of.Tie as tie
+use Rattle.ratio.proofs.ratio_of.Statement.{statement}
+use Rattle.ratio.proofs.ratio_of.Tie as tie
 
 no-ratio-requires : tie.Need-no-ratio-requires
 no-ratio-requires c κs = search needs

@@ -1,8 +1,8 @@
--- `utilization::over_figure` meets its contract.
-use Rattle.utilization.specs.Utilization.{overFigure}
+-- `ratio::over_figure` meets its contract.
+use Rattle.ratio.specs.Ratio.{overFigure}
 use borrow.Author.Needs.{needs}
-use Rattle.utilization.proofs.over_figure.Statement.{statement}
-use Rattle.utilization.proofs.over_figure.Tie as tie
+use Rattle.ratio.proofs.over_figure.Statement.{statement}
+use Rattle.ratio.proofs.over_figure.Tie as tie
 
 enum-known-f : tie.Need-enum-known-f
 enum-known-f c = search needs
