@@ -31,7 +31,8 @@ use Rattle.beam.specs.Checks.{
   sectionOutcome,
   beamOutcome,
 }
-use Rattle.column.specs.Steps.{steelFits, linksFit, slendernessFits, concreteArea, squashLoad, axialCapacity, axialOutcome, slendernessOutcome, linksOutcome, columnOutcome}
+use Rattle.axial.specs.Steps.{steelFits, slendernessFits, concreteArea, squashLoad, axialCapacity}
+use Rattle.column.specs.Checks.{linksFit, axialOutcome, slendernessOutcome, linksOutcome, columnOutcome}
 use Rattle.stability.specs.Steps.{interval, between, stability}
 use Rattle.anchorage.specs.Steps.{basicLength, anchorageLength}
 use Rattle.lap.specs.Steps.{tensionLap, requiredLap, lapLength}

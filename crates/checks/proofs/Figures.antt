@@ -48,9 +48,10 @@ use Rattle.beam.specs.Checks.{
   sectionOutcome,
   beamOutcome,
 }
-use Rattle.column.specs.Steps.{grossArea, steelArea, steelFits, linksFit, slendernessFits, concreteArea, squashLoad, axialCapacity, axialOutcome, slendernessOutcome, linksOutcome, columnOutcome}
+use Rattle.axial.specs.Steps.{grossArea, steelArea, steelFits, slendernessFits, concreteArea, squashLoad, axialCapacity}
+use Rattle.column.specs.Checks.{linksFit, axialOutcome, slendernessOutcome, linksOutcome, columnOutcome}
 use Rattle.stability.specs.Steps.{interval, between, stability}
-use Rattle.column.proofs.Bounds.{gross-most, steel-most}
+use Rattle.axial.proofs.Bounds.{gross-most, steel-most}
 use Rattle.anchorage.specs.Steps.{pairedTenths, apartTenths, basicLength, anchorageLength}
 use Rattle.lap.specs.Steps.{lapRow, tensionLap, requiredLap, lapLength}
 use Rattle.mesh.specs.Checks.{lapOutcome, meshOutcome}

@@ -5,7 +5,7 @@ use Rattle.standard.specs.Steel.{steelOf}
 use Rattle.outcome.specs.declared.Outcome.{Outcome}
 use Rattle.member.specs.Member.{Member, beam, column, mesh}
 use Rattle.mesh.specs.Checks.{meshOutcome}
-use Rattle.column.specs.Steps.{columnOutcome}
+use Rattle.column.specs.Checks.{columnOutcome}
 use Rattle.beam.specs.Checks.{beamOutcome}
 
 abbrev pub markOf : Member → ℕ

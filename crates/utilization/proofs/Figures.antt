@@ -29,7 +29,8 @@ use Rattle.beam.specs.Checks.{
   sectionOutcome,
   beamOutcome,
 }
-use Rattle.column.specs.Steps.{steelFits, linksFit, slendernessFits, axialCapacity, axialOutcome, slendernessOutcome, linksOutcome, columnOutcome}
+use Rattle.axial.specs.Steps.{steelFits, slendernessFits, axialCapacity}
+use Rattle.column.specs.Checks.{linksFit, axialOutcome, slendernessOutcome, linksOutcome, columnOutcome}
 use Rattle.anchorage.specs.Steps.{anchorageLength}
 use Rattle.lap.specs.Steps.{lapLength}
 use Rattle.mesh.specs.Checks.{lapOutcome, meshOutcome}

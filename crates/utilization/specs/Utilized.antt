@@ -10,7 +10,7 @@ use Rattle.bending.specs.Steps.{bendingCapacity}
 use Rattle.shear.specs.Steps.{shearCapacity}
 use Rattle.cracking.specs.Steps.{crackWidth, widthLimit}
 use Rattle.deflection.specs.Steps.{deflectionHolds}
-use Rattle.column.specs.Steps.{axialCapacity}
+use Rattle.axial.specs.Steps.{axialCapacity}
 use Rattle.anchorage.specs.Steps.{anchorageLength}
 use Rattle.lap.specs.Steps.{lapLength}
 use Rattle.built.specs.declared.Built.{Built}

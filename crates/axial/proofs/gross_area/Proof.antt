@@ -1,10 +1,10 @@
--- `column::gross_area` meets its contract.
+-- `axial::gross_area` meets its contract.
 use Prim.Native.Nat.{_≤_}
 use native.Mathlib.Nat.{mul-le-mul}
 use native.Mathlib.Omega.{arith}
 use borrow.Author.Needs.{needs}
-use Rattle.column.proofs.gross_area.Statement.{statement}
-use Rattle.column.proofs.gross_area.Tie as tie
+use Rattle.axial.proofs.gross_area.Statement.{statement}
+use Rattle.axial.proofs.gross_area.Tie as tie
 
 in-millimetres-requires : tie.Need-in-millimetres-requires
 in-millimetres-requires c κs = search needs
@@ -19,7 +19,7 @@ mul-result c =
     omega (arith, mul-le-mul b h)
 
 returns : tie.Need-returns
-returns c = cc
+returns c = rw (c .in-millimetres2 .ensures, c .before .in-millimetres .ensures)
 
 pub gross-area-spec : {M : Type 1} → statement M
 gross-area-spec =

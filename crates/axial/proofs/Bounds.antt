@@ -7,7 +7,7 @@ use borrow.Author.Tests.{leb-true}
 use Rattle.member.specs.Member.{Column}
 use Rattle.member.specs.Accepted.{AcceptedColumn}
 use Rattle.bars.proofs.Groups.{sums}
-use Rattle.column.specs.Steps.{grossArea, steelArea, steelFits, slendernessFits}
+use Rattle.axial.specs.Steps.{grossArea, steelArea, steelFits, slendernessFits}
 
 pub gross-most : (x : Column) → AcceptedColumn x → grossArea x ≤ 2250000
 gross-most x a = mul-le-mul (a .b-most) (a .h-most)

@@ -1,8 +1,8 @@
--- `column::slenderness_fits` meets its contract.
-use Rattle.column.specs.Steps.{slendernessFits}
+-- `axial::slenderness_fits` meets its contract.
+use Rattle.axial.specs.Steps.{slendernessFits}
 use borrow.Author.Needs.{needs}
-use Rattle.column.proofs.slenderness_fits.Statement.{statement}
-use Rattle.column.proofs.slenderness_fits.Tie as tie
+use Rattle.axial.proofs.slenderness_fits.Statement.{statement}
+use Rattle.axial.proofs.slenderness_fits.Tie as tie
 
 in-millimetres-requires : tie.Need-in-millimetres-requires
 in-millimetres-requires c κs = search needs
@@ -15,7 +15,7 @@ mul-result c = search needs
 
 returns : tie.Need-returns
 unfolding slendernessFits
-returns c = cc
+returns c = rw (c .in-millimetres2 .ensures, c .before .in-millimetres .ensures)
 
 pub slenderness-fits-spec : {M : Type 1} → statement M
 slenderness-fits-spec =

@@ -1,11 +1,11 @@
--- `column::steel_fits` meets its contract.
+-- `axial::steel_fits` meets its contract.
 use native.Mathlib.Omega.{arith}
 use Rattle.member.specs.Member.{columnOf}
-use Rattle.column.specs.Steps.{steelFits}
-use Rattle.column.proofs.Bounds.{steel-most}
+use Rattle.axial.specs.Steps.{steelFits}
+use Rattle.axial.proofs.Bounds.{steel-most}
 use borrow.Author.Needs.{needs}
-use Rattle.column.proofs.steel_fits.Statement.{statement}
-use Rattle.column.proofs.steel_fits.Tie as tie
+use Rattle.axial.proofs.steel_fits.Statement.{statement}
+use Rattle.axial.proofs.steel_fits.Tie as tie
 
 bars-area-requires : tie.Need-bars-area-requires
 bars-area-requires c κs = search needs
@@ -18,7 +18,7 @@ gross-area-requires c κs = search needs
 
 returns : tie.Need-returns
 unfolding steelFits
-returns c = cc
+returns c = rw (c .gross-area .ensures, c .before .bars-area .ensures)
 
 pub steel-fits-spec : {M : Type 1} → statement M
 steel-fits-spec = tie.close (tie.spec bars-area-requires mul-result gross-area-requires returns)

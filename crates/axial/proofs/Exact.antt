@@ -9,15 +9,18 @@ use Rattle.quantity.specs.Choice.{if_then_else_}
 use Rattle.quantity.specs.Fraction.{_//_, whole, _⊕_, _⊖_, _⊗_}
 use Rattle.quantity.specs.Unit.{inUnits, inTenths, exactStress}
 use Rattle.quantity.proofs.Rounding.{expand}
-use Rattle.quantity.proofs.Fraction.{Same, same-refl, same-trans, same-sum, same-product}
+use Rattle.quantity.proofs.Fraction.{Same, same-refl, same-sym, same-trans, same-sum, same-product}
 use Rattle.standard.specs.declared.Concrete.{Concrete}
 use Rattle.standard.specs.declared.Steel.{Steel}
 use Rattle.standard.specs.Bounds.{UsableConcrete, UsableSteel}
 use Rattle.member.specs.Member.{Column}
-use Rattle.column.specs.Steps.{grossArea, steelArea, concreteArea, squashLoad}
+use Rattle.axial.specs.Steps.{grossArea, steelArea, concreteArea, squashLoad, axialCapacity}
 use Rattle.stability.specs.Steps.{stability}
-use Rattle.column.specs.Exact.{exactSteelArea, exactConcreteArea, exactAxial}
+use Rattle.axial.specs.Exact.{exactSteelArea, exactConcreteArea, exactAxial}
 use Rattle.stability.proofs.Exact.{stability-same}
+use Rattle.quantity.specs.Safe.{NotAbove}
+use Rattle.quantity.proofs.Safe.{down-not-above, same-not-above}
+use Rattle.axial.specs.Given.{Given}
 
 -- ---- The squash load.
 
@@ -56,10 +59,19 @@ product-same : (f n b : ℕ) → 0 < b → Same (9 // 10 ⊗ f // (200 * b) ⊗ 
 unfolding _⊗_
 product-same f n b p = record { pos = omega arith; pos′ = omega arith; same = simp expand (omega arith) }
 
-pub axial-same : (x : Column) (concrete : Concrete) (steel : Steel) → 0 < x .b → UsableConcrete concrete → UsableSteel steel →
+axial-same : (x : Column) (concrete : Concrete) (steel : Steel) → 0 < x .b → UsableConcrete concrete → UsableSteel steel →
     Same (exactAxial x concrete steel) ((9 * stability (x .l₀) (x .b) * squashLoad x concrete steel) // (200000 * x .b))
 unfolding exactAxial
 axial-same x concrete steel p c s =
     same-trans
     (same-product (same-product (same-refl (9 // 10) (omega arith)) (stability-same (x .l₀) (x .b) p)) (squash-same x concrete steel c s))
     (product-same (stability (x .l₀) (x .b)) (squashLoad x concrete steel) (x .b) p)
+
+-- the figure is on the safe side, at less than 1 N
+pub axial-safe : (x : Column) (concrete : Concrete) (steel : Steel) → Given x concrete steel →
+    NotAbove (axialCapacity x concrete steel) (whole 1) (exactAxial x concrete steel)
+unfolding axialCapacity
+axial-safe x concrete steel given =
+    let p : 0 < x .b = omega (arith, given .accepted .b-least) in
+    same-not-above (omega arith) (same-sym (axial-same x concrete steel p (given .usable-concrete) (given .usable-steel)))
+    (down-not-above (9 * stability (x .l₀) (x .b) * squashLoad x concrete steel) (200000 * x .b) (omega arith))

@@ -1,13 +1,13 @@
--- `column::squash_load` meets its contract.
+-- `axial::squash_load` meets its contract.
 use Prim.Native.Nat.{_*_, _≤_}
 use native.Mathlib.Nat.{mul-le-mul}
 use native.Mathlib.Omega.{arith}
 use Rattle.member.specs.Member.{columnOf}
-use Rattle.column.specs.Steps.{squashLoad}
-use Rattle.column.proofs.Bounds.{gross-most, steel-most, steel-fits}
+use Rattle.axial.specs.Steps.{squashLoad}
+use Rattle.axial.proofs.Bounds.{gross-most, steel-most, steel-fits}
 use borrow.Author.Needs.{needs}
-use Rattle.column.proofs.squash_load.Statement.{statement}
-use Rattle.column.proofs.squash_load.Tie as tie
+use Rattle.axial.proofs.squash_load.Statement.{statement}
+use Rattle.axial.proofs.squash_load.Tie as tie
 
 concrete : (c : tie.After-concrete-area) → c .before .before .in-tenths .result * c .concrete-area .result ≤ 9000000000
 concrete c =
@@ -54,7 +54,11 @@ add-result c = omega (arith, concrete (c .before), bars c)
 
 returns : tie.Need-returns
 unfolding squashLoad
-returns c = (cc, omega (arith, concrete (c .before), bars c))
+returns c =
+    let k = c .before .before in (
+      rw (c .in-units .ensures, c .before .concrete-area .ensures .0, k .gross-area .ensures, k .before .in-tenths .ensures, k .before .before .bars-area .ensures),
+      omega (arith, concrete (c .before), bars c),
+    )
 
 pub squash-load-spec : {M : Type 1} → statement M
 squash-load-spec =

@@ -1,9 +1,9 @@
--- `column::concrete_area` meets its contract.
+-- `axial::concrete_area` meets its contract.
 use borrow.Author.Tests.{lt-ltb, le-ltb}
-use Rattle.column.specs.Steps.{concreteArea}
+use Rattle.axial.specs.Steps.{concreteArea}
 use borrow.Author.Needs.{needs}
-use Rattle.column.proofs.concrete_area.Statement.{statement}
-use Rattle.column.proofs.concrete_area.Tie as tie
+use Rattle.axial.proofs.concrete_area.Statement.{statement}
+use Rattle.axial.proofs.concrete_area.Tie as tie
 
 mul-if1 : tie.Need-mul-if1
 mul-if1 c = search needs

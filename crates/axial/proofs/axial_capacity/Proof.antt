@@ -1,13 +1,13 @@
--- `column::axial_capacity` meets its contract.
+-- `axial::axial_capacity` meets its contract.
 use Prim.Native.Nat.{_*_, _≤_}
 use native.Mathlib.Nat.{mul-le-mul}
 use native.Mathlib.Omega.{arith}
 use Rattle.member.specs.Member.{columnOf}
-use Rattle.column.specs.Steps.{axialCapacity}
-use Rattle.column.proofs.Bounds.{slenderness-fits}
+use Rattle.axial.specs.Steps.{axialCapacity}
+use Rattle.axial.proofs.Bounds.{slenderness-fits}
 use borrow.Author.Needs.{needs}
-use Rattle.column.proofs.axial_capacity.Statement.{statement}
-use Rattle.column.proofs.axial_capacity.Tie as tie
+use Rattle.axial.proofs.axial_capacity.Statement.{statement}
+use Rattle.axial.proofs.axial_capacity.Tie as tie
 
 in-millimetres-requires : tie.Need-in-millimetres-requires
 in-millimetres-requires c κs = search needs
@@ -42,7 +42,10 @@ of-newtons-requires c κs = search needs
 
 returns : tie.Need-returns
 unfolding axialCapacity
-returns c = rw (c .of-newtons .ensures, c .before .div-down .ensures) (cc)
+returns c =
+    let k = c .before .before in
+    let m = k .before .before in
+    rw (c .of-newtons .ensures, c .before .div-down .ensures, k .squash-load .ensures .0, k .before .stability-of .ensures .0, m .in-millimetres2 .ensures, m .before .in-millimetres .ensures)
 
 pub axial-capacity-spec : {M : Type 1} → statement M
 axial-capacity-spec =
