@@ -49,18 +49,8 @@ use Rattle.cracking.specs.Exact.{StressHolds, WidthHolds}
 use Rattle.deflection.specs.Exact.{DeflectionHolds}
 use Rattle.cracking.proofs.Safe.{stress-pass, stress-fail, width-safe, width-pass, width-fail}
 use Rattle.deflection.proofs.Safe.{deflection-safe, deflection-pass, deflection-fail}
-use Rattle.beam.specs.Checks.{
-  fromDeflection,
-  fromWidth,
-  fromStress,
-  fromLeastLinks,
-  fromSpacing,
-  fromShear,
-  fromBending,
-  fromDepth,
-  sectionOutcome,
-  beamOutcome,
-}
+use Rattle.serviceability.specs.Checks.{fromDeflection, fromWidth, fromStress}
+use Rattle.beam.specs.Checks.{fromLeastLinks, fromSpacing, fromShear, fromBending, fromDepth, sectionOutcome, beamOutcome}
 use Rattle.beam.specs.Exact.{momentPlace, shearPlace, widthPlace, deflectionPlace, BeamHolds, MayName, none, least-steel, depth, bending, shallow-bending, shear, spacing, least-links, stress, width, deflection, SafeBeam}
 
 -- ---- A stop: the figures so far, and what the named check allows.

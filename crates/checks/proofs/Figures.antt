@@ -36,18 +36,8 @@ use Rattle.deflection.specs.Steps.{deflection}
 use Rattle.cracking.proofs.Rounded.{near-stress, near-spacing, near-width}
 use Rattle.deflection.proofs.Rounded.{near-flexibility, near-curvature, near-short, near-long, near-deflection}
 use Rattle.cracking.proofs.Safe.{σ-most, near-q}
-use Rattle.beam.specs.Checks.{
-  fromDeflection,
-  fromWidth,
-  fromStress,
-  fromLeastLinks,
-  fromSpacing,
-  fromShear,
-  fromBending,
-  fromDepth,
-  sectionOutcome,
-  beamOutcome,
-}
+use Rattle.serviceability.specs.Checks.{fromDeflection, fromWidth, fromStress}
+use Rattle.beam.specs.Checks.{fromLeastLinks, fromSpacing, fromShear, fromBending, fromDepth, sectionOutcome, beamOutcome}
 use Rattle.axial.specs.Steps.{grossArea, steelArea, steelFits, slendernessFits, concreteArea, squashLoad, axialCapacity}
 use Rattle.column.specs.Checks.{linksFit, axialOutcome, slendernessOutcome, linksOutcome, columnOutcome}
 use Rattle.stability.specs.Steps.{interval, between, stability}

@@ -17,18 +17,8 @@ use Rattle.bending.specs.Steps.{leastSteel, compressionDepth, bendingCapacity}
 use Rattle.shear.specs.Steps.{shearCapacity, linkSpacing, leastLinks}
 use Rattle.cracking.specs.Steps.{stressHolds, crackWidth, widthLimit}
 use Rattle.deflection.specs.Steps.{deflection}
-use Rattle.beam.specs.Checks.{
-  fromDeflection,
-  fromWidth,
-  fromStress,
-  fromLeastLinks,
-  fromSpacing,
-  fromShear,
-  fromBending,
-  fromDepth,
-  sectionOutcome,
-  beamOutcome,
-}
+use Rattle.serviceability.specs.Checks.{fromDeflection, fromWidth, fromStress}
+use Rattle.beam.specs.Checks.{fromLeastLinks, fromSpacing, fromShear, fromBending, fromDepth, sectionOutcome, beamOutcome}
 use Rattle.axial.specs.Steps.{steelFits, slendernessFits, axialCapacity}
 use Rattle.column.specs.Checks.{linksFit, axialOutcome, slendernessOutcome, linksOutcome, columnOutcome}
 use Rattle.anchorage.specs.Steps.{anchorageLength}

@@ -21,8 +21,7 @@ mean-stress-of-requires c κs = search needs
 returns : tie.Need-returns
 unfolding q
 returns c =
-    let k = c .before .before in
-    (
+    let k = c .before .before in (
       rw (c .mean-stress-of .ensures .0, c .before .stiffening-of .ensures, k .weighted-area .ensures .0, k .before .in-hundredths .ensures, k .before .before .pre .1),
       omega arith,
     )

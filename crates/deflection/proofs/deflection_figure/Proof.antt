@@ -28,8 +28,7 @@ unfolding deflection deflectionOf
 returns c =
     let l = c .before in
     let s = l .before in
-    let k = s .before in
-    (
+    let k = s .before in (
       rw (c .div-up .ensures, l .long-term-of .ensures .0, s .short-term-of .ensures .0, k .section-curvature .ensures .0, k .before .pre .1, k .before .pre .3),
       rw (c .div-up .ensures) (deflection-most _ _ (s .short-term-of .ensures .1) (l .long-term-of .ensures .1)),
     )

@@ -13,11 +13,10 @@ curvature-of-requires : tie.Need-curvature-of-requires
 curvature-of-requires c κs = search needs
 
 returns : tie.Need-returns
-returns c =
-    (
-      rw (c .curvature-of .ensures .0, c .before .flexibility-of .ensures .0, c .before .before .in-units .ensures),
-      c .curvature-of .ensures .1,
-    )
+returns c = (
+  rw (c .curvature-of .ensures .0, c .before .flexibility-of .ensures .0, c .before .before .in-units .ensures),
+  c .curvature-of .ensures .1,
+)
 
 pub section-curvature-spec : {M : Type 1} → statement M
 section-curvature-spec =

@@ -1,9 +1,9 @@
--- `beam::from_stress` meets its contract.
+-- `serviceability::from_stress` meets its contract.
 use mathlib.Core.Path.{sym, _∙_}
-use Rattle.beam.specs.Checks.{fromStress}
+use Rattle.serviceability.specs.Checks.{fromStress}
 use borrow.Author.Needs.{needs}
-use Rattle.beam.proofs.from_stress.Statement.{statement}
-use Rattle.beam.proofs.from_stress.Tie as tie
+use Rattle.serviceability.proofs.from_stress.Statement.{statement}
+use Rattle.serviceability.proofs.from_stress.Tie as tie
 
 stress-holds-requires : tie.Need-stress-holds-requires
 stress-holds-requires c κs = c .pre .0

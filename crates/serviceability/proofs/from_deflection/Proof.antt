@@ -1,8 +1,8 @@
--- `beam::from_deflection` meets its contract.
-use Rattle.beam.specs.Checks.{fromDeflection}
+-- `serviceability::from_deflection` meets its contract.
+use Rattle.serviceability.specs.Checks.{fromDeflection}
 use borrow.Author.Needs.{needs}
-use Rattle.beam.proofs.from_deflection.Statement.{statement}
-use Rattle.beam.proofs.from_deflection.Tie as tie
+use Rattle.serviceability.proofs.from_deflection.Statement.{statement}
+use Rattle.serviceability.proofs.from_deflection.Tie as tie
 
 deflection-figure-requires : tie.Need-deflection-figure-requires
 deflection-figure-requires c κs = search needs

@@ -1,9 +1,9 @@
--- `beam::from_width` meets its contract.
+-- `serviceability::from_width` meets its contract.
 use mathlib.Core.Path.{refl}
-use Rattle.beam.proofs.Chain.{width-holds, width-fails}
+use Rattle.serviceability.proofs.Chain.{width-holds, width-fails}
 use borrow.Author.Needs.{needs}
-use Rattle.beam.proofs.from_width.Statement.{statement}
-use Rattle.beam.proofs.from_width.Tie as tie
+use Rattle.serviceability.proofs.from_width.Statement.{statement}
+use Rattle.serviceability.proofs.from_width.Tie as tie
 
 steel-stress-requires : tie.Need-steel-stress-requires
 steel-stress-requires c κs = (c .pre .0, c .pre .2)
