@@ -1,11 +1,11 @@
--- A figure held against its demand or limit: which way the chain goes.
+-- A figure held against its demand: which way the chain goes.
 use Prim.Native.Nat.{ℕ, _≤_, _<_}
 use mathlib.Core.Path.{_≡_}
 use mathlib.Core.Bool.{Bool}
 use borrow.Author.Tests.{le-leb, lt-leb}
 use Rattle.quantity.specs.Choice.{if_then_else_}
 use Rattle.outcome.specs.declared.Check.{Check}
-use Rattle.outcome.specs.declared.Check.the-variants.{Shear, CrackWidth, Bending, ShallowBending}
+use Rattle.outcome.specs.declared.Check.the-variants.{Shear, Bending, ShallowBending}
 use Rattle.outcome.specs.declared.Figure.the-variants.{Reached, Unreached}
 use Rattle.outcome.specs.declared.Outcome.{Outcome}
 use Rattle.outcome.specs.Outcome.{outcome}
@@ -13,17 +13,7 @@ use Rattle.section.specs.declared.Section.{Section}
 use Rattle.section.specs.Section.{M, Vd}
 use Rattle.bending.specs.Steps.{isDeep, bendingCapacity}
 use Rattle.shear.specs.Steps.{shearCapacity}
-use Rattle.service.specs.Steps.{crackWidth, widthLimit}
-use Rattle.beam.specs.Checks.{fromDeflection, fromWidth, fromSpacing, fromShear, fromBending}
-
-module _ (x : Section) (m v w l : ℕ) (o : Outcome) (p : w ≡ crackWidth x) (q : l ≡ widthLimit x) where
-  pub width-holds : w ≤ l → o ≡ fromDeflection x m v w → o ≡ fromWidth x m v
-  unfolding fromWidth
-  width-holds h e = rw (← p, ← q, le-leb w l h) e
-
-  pub width-fails : l < w → o ≡ outcome CrackWidth (Reached m) (Reached v) (Reached w) Unreached → o ≡ fromWidth x m v
-  unfolding fromWidth
-  width-fails h e = rw (← p, ← q, lt-leb w l h) e
+use Rattle.beam.specs.Checks.{fromSpacing, fromShear, fromBending}
 
 module _ (x : Section) (m v : ℕ) (o : Outcome) (p : v ≡ shearCapacity x) where
   pub shear-holds : Vd x ≤ v → o ≡ fromSpacing x m v → o ≡ fromShear x m

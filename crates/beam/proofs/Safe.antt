@@ -42,31 +42,15 @@ use Rattle.shear.specs.Steps.{shearCapacity, linkSpacing, leastLinks}
 use Rattle.shear.specs.Exact.{exactShear, ShearHolds, LinkSpacingHolds, LeastLinksHold}
 use Rattle.shear.proofs.Tests.{link-spacing-pass, link-spacing-fail, least-links-pass, least-links-fail}
 use Rattle.shear.proofs.Exact.{shear-safe}
-use Rattle.service.specs.Steps.{stressHolds, crackWidth, widthLimit, deflectionHolds}
-use Rattle.service.specs.Steps as steps
-use Rattle.service.specs.Exact.{StressHolds, WidthHolds, DeflectionHolds}
-use Rattle.service.proofs.Safe.{
-  stress-pass,
-  stress-fail,
-  width-safe,
-  width-pass,
-  width-fail,
-  deflection-safe,
-  deflection-pass,
-  deflection-fail,
-}
-use Rattle.beam.specs.Checks.{
-  fromDeflection,
-  fromWidth,
-  fromStress,
-  fromLeastLinks,
-  fromSpacing,
-  fromShear,
-  fromBending,
-  fromDepth,
-  sectionOutcome,
-  beamOutcome,
-}
+use Rattle.cracking.specs.Steps.{stressHolds, crackWidth, widthLimit}
+use Rattle.deflection.specs.Steps.{deflectionHolds}
+use Rattle.deflection.specs.Steps as steps
+use Rattle.cracking.specs.Exact.{StressHolds, WidthHolds}
+use Rattle.deflection.specs.Exact.{DeflectionHolds}
+use Rattle.cracking.proofs.Safe.{stress-pass, stress-fail, width-safe, width-pass, width-fail}
+use Rattle.deflection.proofs.Safe.{deflection-safe, deflection-pass, deflection-fail}
+use Rattle.serviceability.specs.Checks.{fromDeflection, fromWidth, fromStress}
+use Rattle.beam.specs.Checks.{fromLeastLinks, fromSpacing, fromShear, fromBending, fromDepth, sectionOutcome, beamOutcome}
 use Rattle.beam.specs.Exact.{momentPlace, shearPlace, widthPlace, deflectionPlace, BeamHolds, MayName, none, least-steel, depth, bending, shallow-bending, shear, spacing, least-links, stress, width, deflection, SafeBeam}
 
 -- ---- A stop: the figures so far, and what the named check allows.

@@ -3,19 +3,7 @@
 use Prim.Native.Nat.{ℕ}
 use lib.Dec.{leb}
 use Rattle.quantity.specs.Choice.{if_then_else_}
-use Rattle.outcome.specs.declared.Check.the-variants.{
-  Passed,
-  LeastSteel,
-  CompressionDepth,
-  Bending,
-  ShallowBending,
-  Shear,
-  LinkSpacing,
-  LeastLinks,
-  ServiceStress,
-  CrackWidth,
-  Deflection,
-}
+use Rattle.outcome.specs.declared.Check.the-variants.{LeastSteel, CompressionDepth, Bending, ShallowBending, Shear, LinkSpacing, LeastLinks}
 use Rattle.outcome.specs.declared.Figure.the-variants.{Reached, Unreached}
 use Rattle.outcome.specs.declared.Outcome.{Outcome}
 use Rattle.outcome.specs.Outcome.{outcome, stopped}
@@ -24,25 +12,9 @@ use Rattle.section.specs.declared.Section.{Section}
 use Rattle.section.specs.Section.{sectionOf, M, Vd}
 use Rattle.bending.specs.Steps.{leastSteel, compressionDepth, isDeep, bendingCapacity}
 use Rattle.shear.specs.Steps.{shearCapacity, linkSpacing, leastLinks}
-use Rattle.service.specs.Steps.{stressHolds, crackWidth, widthLimit, deflection, deflectionHolds}
+use Rattle.serviceability.specs.Checks.{fromStress}
 
--- Each check, from the last to the first, with the figures before it (moment, shear, width).
-
-unfoldable pub fromDeflection : Section → ℕ → ℕ → ℕ → Outcome
-fromDeflection x moment shear width =
-    outcome (if deflectionHolds x then Passed else Deflection) (Reached moment) (Reached shear) (Reached width) (Reached (deflection x))
-
-unfoldable pub fromWidth : Section → ℕ → ℕ → Outcome
-fromWidth x moment shear =
-    if leb (crackWidth x) (widthLimit x)
-    then fromDeflection x moment shear (crackWidth x)
-    else outcome CrackWidth (Reached moment) (Reached shear) (Reached (crackWidth x)) Unreached
-
-unfoldable pub fromStress : Section → ℕ → ℕ → Outcome
-fromStress x moment shear =
-    if stressHolds x
-    then fromWidth x moment shear
-    else outcome ServiceStress (Reached moment) (Reached shear) Unreached Unreached
+-- Each check, from the last to the first, with the figures before it (moment, shear).
 
 unfoldable pub fromLeastLinks : Section → ℕ → ℕ → Outcome
 fromLeastLinks x moment shear =

@@ -22,17 +22,8 @@ use Rattle.section.specs.declared.Section.{Section}
 use Rattle.section.specs.Section.{M, Vd}
 use Rattle.bending.specs.Exact.{deep, exactMoment, LeastSteelHolds, DepthHolds, BendingHolds}
 use Rattle.shear.specs.Exact.{exactShear, ShearHolds, LinkSpacingHolds, LeastLinksHold}
-use Rattle.service.specs.Exact.{
-  exactWidth,
-  exactWidthLimit,
-  exactDeflection,
-  exactDeflectionLimit,
-  inThousandths,
-  inHundredthsOfMm,
-  StressHolds,
-  WidthHolds,
-  DeflectionHolds,
-}
+use Rattle.cracking.specs.Exact.{exactWidth, exactWidthLimit, inThousandths, StressHolds, WidthHolds}
+use Rattle.deflection.specs.Exact.{exactDeflection, exactDeflectionLimit, inHundredthsOfMm, DeflectionHolds}
 
 -- the four places of the line: moment below 1 N·m, shear below 2 N, width below 0.0011 mm, deflection below 0.012 mm
 abbrev pub momentPlace : Section → Place

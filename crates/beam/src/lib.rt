@@ -7,10 +7,9 @@ ghost use Rattle.member.specs.Accepted.{AcceptedBeam};
 ghost use Rattle.section.specs.Section.{G, S};
 ghost use Rattle.section.specs.Bounded.{Bounded};
 ghost use Rattle.bending.specs.Steps.{compressionDepth};
-ghost use Rattle.service.specs.Steps.{stressHolds, σ, q, crackWidth};
 ghost use Rattle.quantity.specs.Choice.{if_then_else_};
 ghost use Rattle.outcome.specs.Outcome.{outcome, stopped};
-ghost use Rattle.beam.specs.Checks.{fromDeflection, fromWidth, fromStress, fromLeastLinks, fromSpacing, fromShear, fromBending, fromDepth, sectionOutcome, beamOutcome};
+ghost use Rattle.beam.specs.Checks.{fromLeastLinks, fromSpacing, fromShear, fromBending, fromDepth, sectionOutcome, beamOutcome};
 use bending::bending_capacity;
 use bending::compression_depth;
 use bending::is_deep;
@@ -21,29 +20,11 @@ use outcome::Figure;
 use outcome::Outcome;
 use section::Section;
 use section::section_of;
-use service::crack_width;
-use service::deflection_figure;
-use service::deflection_holds;
-use service::mean_stress;
-use service::steel_stress;
-use service::stress_holds;
-use service::width_limit;
+use serviceability::after_shear;
+use serviceability::from_stress;
 use shear::least_links;
 use shear::link_spacing;
 use shear::shear_capacity;
-
-// An outcome after the shear check, without later figures.
-fn after_shear(check: Check, moment: u64, shear: u64) -> Outcome
-    ensures { λ r. ⌜ r ≡ outcome check (Figure.Reached moment) (Figure.Reached shear) Figure.Unreached Figure.Unreached ⌝ }
-{
-    Outcome {
-        check: check,
-        first: Figure::Reached(moment),
-        second: Figure::Reached(shear),
-        third: Figure::Unreached,
-        fourth: Figure::Unreached,
-    }
-}
 
 fn stop(check: Check) -> Outcome
     ensures { λ r. ⌜ r ≡ stopped check ⌝ }
@@ -54,72 +35,6 @@ fn stop(check: Check) -> Outcome
         second: Figure::Unreached,
         third: Figure::Unreached,
         fourth: Figure::Unreached,
-    }
-}
-
-// OK, or the last check.
-fn last_check(holds: bool) -> Check
-    ensures { λ r. ⌜ r ≡ (if holds then Check.Passed else Check.Deflection) ⌝ }
-{
-    if holds {
-        Check::Passed
-    } else {
-        Check::Deflection
-    }
-}
-
-// 4.5.1, and OK where it holds.
-fn from_deflection(
-    x: Section,
-    moment: u64,
-    shear: u64,
-    width: u64,
-    stress: u64,
-    mean: u64,
-) -> Outcome
-    requires { ⌜ (Bounded x) × (stress ≡ σ x) × (stress ≤ 6000000) × (mean ≡ q x) × (mean ≤ 6000000) ⌝ }
-    ensures { λ r. ⌜ r ≡ fromDeflection x moment shear width ⌝ }
-{
-    let figure = deflection_figure(x, stress, mean);
-    Outcome {
-        check: last_check(deflection_holds(x, figure)),
-        first: Figure::Reached(moment),
-        second: Figure::Reached(shear),
-        third: Figure::Reached(width),
-        fourth: Figure::Reached(figure),
-    }
-}
-
-// 4.4.2.
-fn from_width(x: Section, moment: u64, shear: u64) -> Outcome
-    requires { ⌜ (Bounded x) × (G x ≤ 50 * S x) × (stressHolds x ≡ true) ⌝ }
-    ensures { λ r. ⌜ r ≡ fromWidth x moment shear ⌝ }
-{
-    let stress = steel_stress(x);
-    let mean = mean_stress(x, stress);
-    let width = crack_width(x, mean);
-    if width <= width_limit(x) {
-        from_deflection(x, moment, shear, width, stress, mean)
-    } else {
-        Outcome {
-            check: Check::CrackWidth,
-            first: Figure::Reached(moment),
-            second: Figure::Reached(shear),
-            third: Figure::Reached(width),
-            fourth: Figure::Unreached,
-        }
-    }
-}
-
-// 4.4.1.
-fn from_stress(x: Section, moment: u64, shear: u64) -> Outcome
-    requires { ⌜ (Bounded x) × (G x ≤ 50 * S x) ⌝ }
-    ensures { λ r. ⌜ r ≡ fromStress x moment shear ⌝ }
-{
-    if stress_holds(x) {
-        from_width(x, moment, shear)
-    } else {
-        after_shear(Check::ServiceStress, moment, shear)
     }
 }
 

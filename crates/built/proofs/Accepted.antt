@@ -21,8 +21,11 @@ use Rattle.member.specs.Member.{Beam, Column, h₀}
 use Rattle.bars.specs.Sums.{barCount, area}
 use Rattle.bars.specs.Accepted.{BarFrom, AcceptedGroup, AcceptedGroups}
 use Rattle.member.specs.Accepted.{AcceptedMark, AcceptedMember, BeamInRange, AcceptedBeam, AcceptedColumn, AcceptedMesh}
-use Rattle.member.specs.Questions.{beamRelation, beamBars, beamRatio, columnRelation, columnBars, meshRelation}
-use Rattle.member.proofs.Questions.{both-true, Related, related, few-bars, ratio, column-order, column-few-bars, apart-alone}
+use Rattle.relation.specs.Relation.{beamRelation, columnRelation, meshRelation}
+use Rattle.reinforcement.specs.Reinforcement.{beamBars, beamRatio, columnBars}
+use Rattle.quantity.proofs.Choice.{both-true}
+use Rattle.relation.proofs.Relation.{Related, related, column-order, apart-alone}
+use Rattle.reinforcement.proofs.Reinforcement.{few-bars, ratio, column-few-bars}
 use Rattle.field.specs.declared.Domain.{Domain}
 use Rattle.field.specs.declared.Domain.the-variants.{Range, ZeroOr, Bar, Grade, Steel, LinkSteel, GroupDiameter, GroupBars}
 use Rattle.field.specs.Domain.{between, bar, holds, asked, fieldHolds}

@@ -8,7 +8,8 @@ use Rattle.quantity.specs.Choice.{if_then_else_}
 use Rattle.question.specs.declared.Question.{Question}
 use Rattle.question.specs.declared.Question.the-variants.{Mark, Kind, Field, Relation, Bars, Ratio}
 use Rattle.member.specs.Member.{Beam, Column, Mesh}
-use Rattle.member.specs.Questions.{beamRelation, beamBars, beamRatio, columnRelation, columnBars, meshRelation}
+use Rattle.relation.specs.Relation.{beamRelation, columnRelation, meshRelation}
+use Rattle.reinforcement.specs.Reinforcement.{beamBars, beamRatio, columnBars}
 use Rattle.field.specs.Domain.{between}
 use Rattle.field.specs.Fields.{fieldsOf, fieldsHold, known}
 use Rattle.built.specs.declared.Verdict.{Verdict}

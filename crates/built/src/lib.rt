@@ -16,16 +16,16 @@ use field::is_known;
 use member::Beam;
 use member::Column;
 use member::Mesh;
-use member::beam_bars;
-use member::beam_ratio;
-use member::beam_relation;
-use member::column_bars;
-use member::column_relation;
-use member::mesh_relation;
 use quantity::Force;
 use quantity::Length;
 use quantity::wide;
 use question::Question;
+use reinforcement::beam_bars;
+use reinforcement::beam_ratio;
+use reinforcement::column_bars;
+use relation::beam_relation;
+use relation::column_relation;
+use relation::mesh_relation;
 
 // A member that a caller builds.
 pub struct Built {

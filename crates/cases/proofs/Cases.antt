@@ -17,41 +17,16 @@ use Rattle.bars.specs.Sums.{area, sumD, sumE, groupArea, groupDiameters, groupS
 use Rattle.section.specs.Section.{sectionOf}
 use Rattle.bending.specs.Steps.{leastSteel, compressionDepth, isDeep, deepCapacity, shallowCapacity, bendingCapacity}
 use Rattle.shear.specs.Steps.{concreteShear, linkShear, shearCapacity, shearAbove, linkSpacing, leastLinks}
-use Rattle.service.specs.Steps.{
-  stressHolds,
-  steelStress,
-  stiffening,
-  meanStress,
-  crackSpacing,
-  widthOf,
-  σ,
-  q,
-  crackWidth,
-  widthLimit,
-  flexibility,
-  curvature,
-  shortTerm,
-  longTerm,
-  deflectionOf,
-  deflection,
-  spanDivisor,
-  deflectionHolds,
-}
-use Rattle.beam.specs.Checks.{
-  fromDeflection,
-  fromWidth,
-  fromStress,
-  fromLeastLinks,
-  fromSpacing,
-  fromShear,
-  fromBending,
-  fromDepth,
-  sectionOutcome,
-  beamOutcome,
-}
-use Rattle.column.specs.Steps.{steelFits, linksFit, slendernessFits, concreteArea, squashLoad, axialCapacity, axialOutcome, slendernessOutcome, linksOutcome, columnOutcome}
+use Rattle.cracking.specs.Steps.{stressHolds, steelStress, stiffening, meanStress, crackSpacing, widthOf, σ, q, crackWidth, widthLimit}
+use Rattle.deflection.specs.Steps.{flexibility, curvature, shortTerm, longTerm, deflectionOf, deflection, spanDivisor, deflectionHolds}
+use Rattle.serviceability.specs.Checks.{fromDeflection, fromWidth, fromStress}
+use Rattle.beam.specs.Checks.{fromLeastLinks, fromSpacing, fromShear, fromBending, fromDepth, sectionOutcome, beamOutcome}
+use Rattle.axial.specs.Steps.{steelFits, slendernessFits, concreteArea, squashLoad, axialCapacity}
+use Rattle.column.specs.Checks.{linksFit, axialOutcome, slendernessOutcome, linksOutcome, columnOutcome}
 use Rattle.stability.specs.Steps.{interval, between, stability}
-use Rattle.mesh.specs.Steps.{basicLength, anchorageLength, tensionLap, requiredLap, lapLength, lapOutcome, meshOutcome}
+use Rattle.anchorage.specs.Steps.{basicLength, anchorageLength}
+use Rattle.lap.specs.Steps.{tensionLap, requiredLap, lapLength}
+use Rattle.mesh.specs.Checks.{lapOutcome, meshOutcome}
 use Rattle.checks.specs.Outcome.{outcomeOf}
 
 -- The three members of the printed schedule: the beam with its link spacing and shear, the column with its

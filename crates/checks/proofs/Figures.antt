@@ -31,26 +31,21 @@ use Rattle.bending.proofs.Tests.{least-steel-pass}
 use Rattle.bending.proofs.Capacity as bending
 use Rattle.shear.specs.Steps.{shearCapacity, linkSpacing, leastLinks}
 use Rattle.shear.proofs.Bounds as shear
-use Rattle.service.specs.Steps.{stressHolds, σ, crackWidth, widthLimit, deflection}
-use Rattle.service.proofs.Rounded.{near-stress, near-spacing, near-width, near-flexibility, near-curvature, near-short, near-long, near-deflection}
-use Rattle.service.proofs.Safe.{σ-most, near-q}
-use Rattle.beam.specs.Checks.{
-  fromDeflection,
-  fromWidth,
-  fromStress,
-  fromLeastLinks,
-  fromSpacing,
-  fromShear,
-  fromBending,
-  fromDepth,
-  sectionOutcome,
-  beamOutcome,
-}
-use Rattle.column.specs.Steps.{grossArea, steelArea, steelFits, linksFit, slendernessFits, concreteArea, squashLoad, axialCapacity, axialOutcome, slendernessOutcome, linksOutcome, columnOutcome}
+use Rattle.cracking.specs.Steps.{stressHolds, σ, crackWidth, widthLimit}
+use Rattle.deflection.specs.Steps.{deflection}
+use Rattle.cracking.proofs.Rounded.{near-stress, near-spacing, near-width}
+use Rattle.deflection.proofs.Rounded.{near-flexibility, near-curvature, near-short, near-long, near-deflection}
+use Rattle.cracking.proofs.Safe.{σ-most, near-q}
+use Rattle.serviceability.specs.Checks.{fromDeflection, fromWidth, fromStress}
+use Rattle.beam.specs.Checks.{fromLeastLinks, fromSpacing, fromShear, fromBending, fromDepth, sectionOutcome, beamOutcome}
+use Rattle.axial.specs.Steps.{grossArea, steelArea, steelFits, slendernessFits, concreteArea, squashLoad, axialCapacity}
+use Rattle.column.specs.Checks.{linksFit, axialOutcome, slendernessOutcome, linksOutcome, columnOutcome}
 use Rattle.stability.specs.Steps.{interval, between, stability}
-use Rattle.column.proofs.Bounds.{gross-most, steel-most}
-use Rattle.mesh.specs.Steps.{pairedTenths, apartTenths, basicLength, anchorageLength, lapRow, tensionLap, requiredLap, lapLength, lapOutcome, meshOutcome}
-use Rattle.mesh.proofs.Bounds.{plain}
+use Rattle.axial.proofs.Bounds.{gross-most, steel-most}
+use Rattle.anchorage.specs.Steps.{pairedTenths, apartTenths, basicLength, anchorageLength}
+use Rattle.lap.specs.Steps.{lapRow, tensionLap, requiredLap, lapLength}
+use Rattle.mesh.specs.Checks.{lapOutcome, meshOutcome}
+use Rattle.anchorage.proofs.Bounds.{plain}
 use Rattle.checks.specs.Outcome.{outcomeOf}
 
 pub record Short (o : Outcome) : Type 0 where

@@ -4,8 +4,8 @@ use Rattle.standard.specs.Concrete.{concreteOf}
 use Rattle.standard.specs.Steel.{steelOf}
 use Rattle.outcome.specs.declared.Outcome.{Outcome}
 use Rattle.member.specs.Member.{Member, beam, column, mesh}
-use Rattle.mesh.specs.Steps.{meshOutcome}
-use Rattle.column.specs.Steps.{columnOutcome}
+use Rattle.mesh.specs.Checks.{meshOutcome}
+use Rattle.column.specs.Checks.{columnOutcome}
 use Rattle.beam.specs.Checks.{beamOutcome}
 
 abbrev pub markOf : Member → ℕ

@@ -1,3 +1,1 @@
-pub mod Bounds
-pub mod Exact
 pub mod Safe

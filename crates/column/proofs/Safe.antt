@@ -1,15 +1,12 @@
 -- Demand 3 for every accepted column.
-use Prim.Native.Nat.{ℕ, _*_, _≤_, _<_}
+use Prim.Native.Nat.{ℕ, _*_, _≤_}
 use mathlib.Core.Path.{_≡_, refl}
 use mathlib.Core.Bool.{Bool, true, false, _&&_}
 use native.Mathlib.Omega.{arith}
 use lib.Dec.{leb}
 use borrow.Author.Tests.{leb-true, leb-false}
-use Rattle.quantity.specs.Fraction.{whole}
-use Rattle.quantity.specs.Safe.{NotAbove}
 use Rattle.quantity.proofs.Choice.{if-case}
-use Rattle.quantity.proofs.Fraction.{same-sym}
-use Rattle.quantity.proofs.Safe.{down-not-above, same-not-above, capacity-pass, capacity-fail}
+use Rattle.quantity.proofs.Safe.{capacity-pass, capacity-fail}
 use Rattle.standard.specs.declared.Concrete.{Concrete}
 use Rattle.standard.specs.declared.Steel.{Steel}
 use Rattle.standard.specs.Concrete.{concreteOf}
@@ -22,11 +19,11 @@ use Rattle.outcome.specs.Outcome.{outcome, stopped}
 use Rattle.outcome.specs.declared.Check.{Check}
 use Rattle.outcome.specs.declared.Check.the-variants.{Passed, MostSteel, ColumnLinks, Slenderness, AxialForce}
 use Rattle.outcome.specs.declared.Figure.the-variants.{Reached, Unreached}
-use Rattle.column.specs.Given.{Given}
-use Rattle.column.specs.Steps.{grossArea, steelArea, steelFits, linksFit, slendernessFits, squashLoad, axialCapacity, axialOutcome, slendernessOutcome, linksOutcome, columnOutcome}
-use Rattle.stability.specs.Steps.{stability}
-use Rattle.column.specs.Exact.{exactAxial, LinksHold, ColumnHolds, MayName, none, most-steel, links, slenderness, axial, SafeColumnWith, SafeColumn}
-use Rattle.column.proofs.Exact.{axial-same}
+use Rattle.axial.specs.Given.{Given}
+use Rattle.axial.specs.Steps.{grossArea, steelArea, steelFits, slendernessFits, axialCapacity}
+use Rattle.column.specs.Checks.{linksFit, axialOutcome, slendernessOutcome, linksOutcome, columnOutcome}
+use Rattle.column.specs.Exact.{LinksHold, ColumnHolds, MayName, none, most-steel, links, slenderness, axial, SafeColumnWith, SafeColumn}
+use Rattle.axial.proofs.Exact.{axial-safe}
 
 -- ---- Each test settles its inequality.
 
@@ -61,16 +58,9 @@ slenderness-decides : (x : Column) → Decides (slendernessFits x) (x .l₀ ≤ 
 unfolding slendernessFits
 slenderness-decides x = decides-le (x .l₀) (50 * x .b)
 
--- ---- The figure, and the ways out, for any usable concrete and steel.
+-- ---- The ways out, for any usable concrete and steel.
 
 module _ (x : Column) (concrete : Concrete) (steel : Steel) (given : Given x concrete steel) where
-  axial-safe : NotAbove (axialCapacity x concrete steel) (whole 1) (exactAxial x concrete steel)
-  unfolding axialCapacity
-  axial-safe =
-      let p : 0 < x .b = omega (arith, given .accepted .b-least) in
-      same-not-above (omega arith) (same-sym (axial-same x concrete steel p (given .usable-concrete) (given .usable-steel)))
-      (down-not-above (9 * stability (x .l₀) (x .b) * squashLoad x concrete steel) (200000 * x .b) (omega arith))
-
   none-reached : (check : Check) → (check ≡ Passed → ⊥) → MayName x concrete steel check → SafeColumnWith x concrete steel (stopped check)
   none-reached check p n =
       record { first = tt; second = tt; third = tt; fourth = tt; passed = λ e. absurd (p e); named = n }
@@ -78,7 +68,7 @@ module _ (x : Column) (concrete : Concrete) (steel : Steel) (given : Given x con
   axial-reached : (check : Check) → (check ≡ Passed → ColumnHolds x concrete steel) → MayName x concrete steel check →
       SafeColumnWith x concrete steel (outcome check (Reached (axialCapacity x concrete steel)) Unreached Unreached Unreached)
   axial-reached check p n =
-      record { first = axial-safe; second = tt; third = tt; fourth = tt; passed = p; named = n }
+      record { first = axial-safe x concrete steel given; second = tt; third = tt; fourth = tt; passed = p; named = n }
 
   pub safe-with : SafeColumnWith x concrete steel (columnOutcome x concrete steel)
   unfolding columnOutcome linksOutcome slendernessOutcome axialOutcome
@@ -92,9 +82,9 @@ module _ (x : Column) (concrete : Concrete) (steel : Steel) (given : Given x con
         most-steel = steel-decides x .holds a;
         links = links-decides x .holds l;
         slenderness = slenderness-decides x .holds s;
-        axial = capacity-pass axial-safe (leb-true _ _ n);
+        axial = capacity-pass (axial-safe x concrete steel given) (leb-true _ _ n);
       }) none)
-      (λ n. axial-reached AxialForce (λ e. let z : _≡_ {A = ℕ} 0 1 = cc in absurd (omega arith)) (axial (capacity-fail axial-safe (leb-false _ _ n)))))
+      (λ n. axial-reached AxialForce (λ e. let z : _≡_ {A = ℕ} 0 1 = cc in absurd (omega arith)) (axial (capacity-fail (axial-safe x concrete steel given) (leb-false _ _ n)))))
       (λ s. none-reached Slenderness (λ e. let z : _≡_ {A = ℕ} 0 1 = cc in omega arith) (slenderness (slenderness-decides x .fails s))))
       (λ l. none-reached ColumnLinks (λ e. let z : _≡_ {A = ℕ} 0 1 = cc in omega arith) (links (links-decides x .fails l))))
       (λ a. none-reached MostSteel (λ e. let z : _≡_ {A = ℕ} 0 1 = cc in omega arith) (most-steel (steel-decides x .fails a)))

@@ -1,38 +1,18 @@
--- Demand 3 for a column: the exact axial capacity of 000, 4.2.4, the exact inequalities, and what an outcome may say.
--- The capacity is an exact fraction of N.
-use Prim.Native.Nat.{_+_, _-_, _*_, _≤_}
+-- Demand 3 for a column: its axial capacity against the clause's exact fraction, the exact inequalities, and what an outcome may say.
+use Prim.Native.Nat.{_*_, _≤_}
 use mathlib.Core.Path.{_≡_}
-use lib.Dec.{ltb}
-use Rattle.quantity.specs.Choice.{if_then_else_}
-use Rattle.quantity.specs.Fraction.{Frac, _//_, whole, _⊕_, _⊖_, _⊗_, _≼_, _≺_}
-use Rattle.quantity.specs.Unit.{exactStress}
+use Rattle.quantity.specs.Fraction.{whole, _⊖_, _≼_, _≺_}
 use Rattle.standard.specs.declared.Concrete.{Concrete}
 use Rattle.standard.specs.declared.Steel.{Steel}
 use Rattle.standard.specs.Concrete.{concreteOf}
 use Rattle.standard.specs.Steel.{steelOf}
-use Rattle.stability.specs.Exact.{exactStability}
 use Rattle.member.specs.Member.{Column}
 use Rattle.bars.specs.Sums.{area, largest, smallest}
 use Rattle.outcome.specs.Safe.{empty, capacity, Safe}
 use Rattle.outcome.specs.declared.Outcome.{Outcome}
 use Rattle.outcome.specs.declared.Check.{Check}
 use Rattle.outcome.specs.declared.Check.the-variants.{Passed, MostSteel, ColumnLinks, Slenderness, AxialForce}
-
--- area of the bars and of the concrete, mm²: without the bars' above 3 percent
-unfoldable pub exactSteelArea : Column → Frac
-exactSteelArea x = area (x .groups) // 10
-
-unfoldable pub exactConcreteArea : Column → Frac
-exactConcreteArea x =
-    if ltb (3 * (x .b * x .h)) (10 * area (x .groups))
-    then whole (x .b * x .h) ⊖ exactSteelArea x
-    else whole (x .b * x .h)
-
--- 4.2.4: 0.9·φ·(fc·A + fy'·As), N
-unfoldable pub exactAxial : Column → Concrete → Steel → Frac
-exactAxial x concrete steel =
-    9 // 10 ⊗ exactStability (x .l₀) (x .b)
-    ⊗ (exactStress (concrete .fc) ⊗ exactConcreteArea x ⊕ exactStress (steel .axial) ⊗ exactSteelArea x)
+use Rattle.axial.specs.Exact.{exactAxial}
 
 -- 5.6.2
 pub record LinksHold (x : Column) : Type 0 where

@@ -1,3 +1,2 @@
-pub mod Steps
-pub mod Given
+pub mod Checks
 pub mod Exact

@@ -11,7 +11,7 @@ use lib.ListN.{length, getD, drop, List·getD-append}
 use lib.Seq.{drop-cons, getD-append-add}
 use borrow.Author.Tests.{leb-true}
 use Rattle.standard.proofs.Table.{every-at}
-use Rattle.member.proofs.Questions.{both-true}
+use Rattle.quantity.proofs.Choice.{both-true}
 use Rattle.field.specs.declared.Domain.{Domain}
 use Rattle.field.specs.declared.Domain.the-variants.{Grade}
 use Rattle.field.specs.Domain.{between, fieldHolds}

@@ -7,12 +7,12 @@ use Rattle.built.specs.Slots.{memberOf}
 use Rattle.lent.specs.declared.Lent.{Lent}
 use Rattle.lent.specs.Lent.{four, lentSlots, builtOf, lentMember}
 use Rattle.lent.proofs.Counts.{lent-verdict}
-use Rattle.utilization.specs.declared.Utilization.{Utilization}
-use Rattle.utilization.specs.declared.Governing.{Governing}
-use Rattle.utilization.specs.declared.Governing.the-variants.{Largest, None}
+use Rattle.ratio.specs.declared.Utilization.{Utilization}
+use Rattle.governing.specs.declared.Governing.{Governing}
+use Rattle.governing.specs.declared.Governing.the-variants.{Largest, None}
 use Rattle.utilization.specs.declared.Answer.{Answer}
 use Rattle.utilization.specs.declared.Answer.the-variants.{Given, Refused}
-use Rattle.utilization.specs.Governing.{governingOf}
+use Rattle.governing.specs.Governing.{governingOf}
 use Rattle.utilization.specs.Utilized.{answerOf, Utilized}
 use Rattle.koxaltes.specs.declared.UtilizationTold.{UtilizationTold}
 use Rattle.koxaltes.specs.Utilized.{withGoverning, utilizationTold, lentUtilizationOf, MemberUtilized}

@@ -9,13 +9,14 @@ use Rattle.member.specs.Member.{Member}
 use Rattle.checks.specs.Outcome.{outcomeOf}
 use Rattle.lent.specs.declared.Lent.{Lent}
 use Rattle.lent.specs.Lent.{lentVerdict, lentMember}
-use Rattle.utilization.specs.declared.Utilization.{Utilization}
-use Rattle.utilization.specs.declared.Governing.{Governing}
-use Rattle.utilization.specs.declared.Governing.the-variants.{Largest, None}
+use Rattle.ratio.specs.declared.Utilization.{Utilization}
+use Rattle.governing.specs.declared.Governing.{Governing}
+use Rattle.governing.specs.declared.Governing.the-variants.{Largest, None}
 use Rattle.utilization.specs.declared.Answer.{Answer}
 use Rattle.utilization.specs.declared.Answer.the-variants.{Given, Refused}
-use Rattle.utilization.specs.Utilization.{nought, noRatio, four, nearest, utilizationOf}
-use Rattle.utilization.specs.Governing.{governingOf}
+use Rattle.ratio.specs.Ratio.{nought, noRatio, four, nearest}
+use Rattle.utilization.specs.Utilization.{utilizationOf}
+use Rattle.governing.specs.Governing.{governingOf}
 use Rattle.utilization.specs.Utilized.{answerBy, DecidesMember}
 use Rattle.koxaltes.specs.declared.UtilizationTold.{UtilizationTold}
 

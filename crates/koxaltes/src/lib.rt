@@ -8,16 +8,16 @@ ghost use Rattle.koxaltes.specs.Told.{told, lentReportOf};
 ghost use Rattle.koxaltes.specs.Claim.{ReportTold, MemberTold};
 ghost use Rattle.koxaltes.specs.Utilized.{withGoverning, refusedUtilization, utilizationTold, lentUtilizationOf, MemberUtilized};
 use bars::Group;
+use governing::Governing;
+use governing::governing_of;
 use lent::Lent;
 use lent::built_from;
 use lent::first_four;
 use question::number_of;
+use ratio::Utilization;
 use report::Answer;
 use report::member_report;
 use report::report;
-use utilization::Governing;
-use utilization::Utilization;
-use utilization::governing_of;
 use utilization::utilization_of;
 
 // An answer: question 0 says that the text stands in the buffer's first `length` bytes; any other names the question that was answered

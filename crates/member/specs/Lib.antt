@@ -1,3 +1,2 @@
 pub mod Member
-pub mod Questions
 pub mod Accepted

@@ -1,4 +1,4 @@
--- Document 01's mesh 3, printed and with a lap given that is 1 mm shorter than needed; the steps at other fields.
+-- Document 01's mesh 3 with an anchorage given that is 1 mm shorter than needed.
 use Prim.Native.Nat.{ℕ}
 use mathlib.Core.Path.{_≡_, refl}
 use Rattle.quantity.specs.Rounding.{up}
@@ -7,7 +7,8 @@ use Rattle.member.specs.Member.{Mesh}
 use Rattle.outcome.specs.Outcome.{outcome}
 use Rattle.outcome.specs.declared.Check.the-variants.{Anchorage}
 use Rattle.outcome.specs.declared.Figure.the-variants.{Reached, Unreached}
-use Rattle.mesh.specs.Steps.{basicLength, anchorageLength, meshOutcome}
+use Rattle.anchorage.specs.Steps.{basicLength, anchorageLength}
+use Rattle.mesh.specs.Checks.{meshOutcome}
 
 mesh₃ : ℕ → ℕ → Mesh
 mesh₃ anchorage lap =

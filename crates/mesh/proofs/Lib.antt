@@ -1,4 +1,2 @@
-pub mod Bounds
-pub mod Exact
 pub mod Safe
 pub mod Examples

@@ -8,29 +8,19 @@ use borrow.Author.Tests.{leb-true, leb-false}
 use Rattle.quantity.specs.Fraction.{Frac, whole, _⊖_, _≼_, _≺_}
 use Rattle.quantity.specs.Safe.{NotBelow}
 use Rattle.quantity.proofs.Choice.{if-case}
-use Rattle.quantity.proofs.Fraction.{same-sym}
-use Rattle.quantity.proofs.Safe.{up-not-below, same-not-below, limit-pass, limit-fail}
+use Rattle.quantity.proofs.Safe.{limit-pass, limit-fail}
 use Rattle.member.specs.Member.{Mesh}
 use Rattle.member.specs.Accepted.{AcceptedMesh}
 use Rattle.outcome.specs.Outcome.{outcome}
 use Rattle.outcome.specs.declared.Check.{Check}
 use Rattle.outcome.specs.declared.Check.the-variants.{Passed, Anchorage, Lap}
 use Rattle.outcome.specs.declared.Figure.the-variants.{Reached, Unreached}
-use Rattle.mesh.specs.Steps.{basicLength, anchorageLength, requiredLap, lapLength, lapOutcome, meshOutcome}
-use Rattle.mesh.specs.Exact.{exactAnchorage, exactLap, MeshHolds, MayName, none, anchorage, lap, SafeMesh}
-use Rattle.mesh.proofs.Exact.{basic-same, lap-same}
-
--- Both figures are on the safe side, at less than 1 mm.
-
-anchorage-safe : (x : Mesh) → NotBelow (anchorageLength x) (whole 1) (exactAnchorage x)
-unfolding anchorageLength exactAnchorage
-anchorage-safe x =
-    same-not-below (omega arith) (same-sym (basic-same (x .cross) (x .apart) x))
-    (up-not-below (basicLength (x .cross) (x .apart) x) 10000 (omega arith))
-
-lap-safe : (x : Mesh) → NotBelow (lapLength x) (whole 1) (exactLap x)
-unfolding lapLength
-lap-safe x = same-not-below (omega arith) (same-sym (lap-same x)) (up-not-below (requiredLap x) 1000000 (omega arith))
+use Rattle.anchorage.specs.Steps.{anchorageLength}
+use Rattle.lap.specs.Steps.{lapLength}
+use Rattle.mesh.specs.Checks.{lapOutcome, meshOutcome}
+use Rattle.mesh.specs.Exact.{MeshHolds, MayName, none, anchorage, lap, SafeMesh}
+use Rattle.anchorage.proofs.Exact.{anchorage-safe}
+use Rattle.lap.proofs.Exact.{lap-safe}
 
 -- A figure against the length given: it settles the exact inequality, or is within 1 mm of it.
 

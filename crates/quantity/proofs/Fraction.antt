@@ -1,10 +1,10 @@
 -- Laws of fractions: equality (`Same`) and order by cross-multiplying, respected by each operation; the distance of two.
 use Prim.Native.Nat.{ℕ, _+_, _-_, _*_, _<_, _≤_, min, max}
 use mathlib.Core.Path.{_≡_, refl, sym, ap, _∙_}
-use native.Mathlib.Nat.{mul-add, add-mul, mul-assoc, mul-comm, mul-left-comm, mul-sub, mul-pos, mul-le-mul-left, mul-le-mul-right, mul-mul-mul-comm, eq-of-mul-eq-mul-right, le-of-mul-le-mul-right, lt-of-mul-lt-mul-right, mul-lt-mul-of-pos-right, min-eq-left, min-eq-right, max-eq-left, max-eq-right}
+use native.Mathlib.Nat.{mul-add, add-mul, mul-assoc, mul-comm, mul-left-comm, mul-sub, mul-pos, mul-le-mul-left, mul-le-mul-right, mul-mul-mul-comm, eq-of-mul-eq-mul-right, le-of-mul-le-mul-left, le-of-mul-le-mul-right, lt-of-mul-lt-mul-right, mul-lt-mul-of-pos-right, min-eq-left, min-eq-right, max-eq-left, max-eq-right}
 use native.Mathlib.Decide.{decLe}
 use native.Mathlib.Omega.{arith}
-use Rattle.quantity.specs.Fraction.{Frac, _//_, Proper, _⊕_, _⊖_, _⊗_, _⊘_, smaller, larger, _≼_, _≺_, distance}
+use Rattle.quantity.specs.Fraction.{Frac, _//_, whole, Proper, _⊕_, _⊖_, _⊗_, _⊘_, smaller, larger, _≼_, _≺_, distance}
 use Rattle.quantity.proofs.Rounding.{expand}
 
 -- ---- A product goes into a difference, a smaller and a larger of two.
@@ -223,6 +223,12 @@ pub ≺-≼-trans : (a b c : Frac) → Proper c → a ≺ b → b ≼ c → a �
 ≺-≼-trans a b c p u v =
     lt-of-mul-lt-mul-right (b .den)
     (≺-core (a .num) (a .den) (b .num) (b .den) (c .num) (c .den) (mul-lt-mul-of-pos-right u p) v)
+
+pub scale-≼ : (k : ℕ) (a l : Frac) → 0 < k → whole k ⊗ a ≼ whole k ⊗ l → a ≼ l
+unfolding _⊗_
+scale-≼ k a l p h =
+    let t : k * (a .num * l .den) ≤ k * (l .num * a .den) = simp expand (omega (arith, simp expand at h)) in
+    le-of-mul-le-mul-left t p
 
 -- ---- Distance and margin: of two of which one is known not to be above the other.
 

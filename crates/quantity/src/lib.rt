@@ -1,7 +1,8 @@
 // Whole-number arithmetic with stated rounding, and the codes' units as types of their own.
 ghost use mathlib.Core.Path.{_≡_};
 ghost use mathlib.Core.Bool.{_&&_, _||_};
-ghost use Prim.Native.Nat.{_+_, _-_, _*_, _<_, _^_, min, max};
+ghost use Prim.Native.Nat.{_+_, _-_, _*_, _<_, _≤_, _^_, min, max};
+ghost use Rattle.quantity.specs.Choice.{if_then_else_};
 ghost use Rattle.quantity.specs.Rounding.{up, down, clamp};
 ghost use Rattle.quantity.specs.Unit.{newtons, millimetres, stressOf, stressOfTenths, stressOfHundredths, inUnits, inTenths, inHundredths};
 
@@ -39,6 +40,13 @@ pub fn less(a: u64, b: u64) -> u64
     ensures { λ r. ⌜ r ≡ a - b ⌝ }
 {
     if a < b { 0 } else { a - b }
+}
+
+// The value that a test picks.
+pub fn chosen(test: bool, yes: u64, no: u64) -> u64
+    ensures { λ r. ⌜ (r ≡ (if test then yes else no)) × (r ≤ max yes no) ⌝ }
+{
+    if test { yes } else { no }
 }
 
 // x held to lo .. hi.

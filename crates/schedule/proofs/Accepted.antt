@@ -14,7 +14,7 @@ use Rattle.number.specs.declared.Number.the-variants.{Value, Refused}
 use Rattle.number.specs.Number.{numberAt}
 use Rattle.member.specs.Member.{Member}
 use Rattle.member.specs.Accepted.{AcceptedMember, AcceptedMembers}
-use Rattle.member.proofs.Questions.{both-true}
+use Rattle.quantity.proofs.Choice.{both-true}
 use Rattle.field.specs.Fields.{fieldsOf, fieldsHold, known}
 use Rattle.field.proofs.Tables.{in-between}
 use Rattle.built.specs.declared.Built.{Built}

@@ -8,7 +8,8 @@ use Rattle.standard.specs.Bars.{areaOf}
 use Rattle.number.specs.Number.{numberAt, groupsAt, lastGroup}
 use Rattle.member.specs.Member.{Member, beam, column, mesh}
 use Rattle.bars.specs.Sums.{barCount, area, groupArea}
-use Rattle.member.specs.Questions.{flangeFits, compressionFits, depthFits, beamRelation, beamBars, beamRatio, columnRelation, columnBars, meshRelation}
+use Rattle.relation.specs.Relation.{flangeFits, compressionFits, depthFits, beamRelation, columnRelation, meshRelation}
+use Rattle.reinforcement.specs.Reinforcement.{beamBars, beamRatio, columnBars}
 use Rattle.field.specs.Domain.{holds, asked}
 use Rattle.field.specs.Fields.{fieldsOf, known}
 use Rattle.built.specs.Slots.{beamAt, columnAt, meshAt, memberAt}

@@ -15,7 +15,7 @@ use Rattle.question.specs.declared.Question.the-variants.{Field}
 use Rattle.number.specs.declared.Number.{Number}
 use Rattle.number.specs.declared.Number.the-variants.{Value, Refused}
 use Rattle.number.specs.Number.{numberAt}
-use Rattle.member.proofs.Questions.{both-true}
+use Rattle.quantity.proofs.Choice.{both-true}
 use Rattle.field.specs.declared.Domain.{Domain}
 use Rattle.field.specs.declared.Domain.the-variants.{Range, ZeroOr, Bar, Grade, Steel, LinkSteel, GroupDiameter, GroupBars}
 use Rattle.field.specs.Domain.{asked, holds, fieldHolds}

@@ -15,55 +15,32 @@ use Rattle.standard.specs.Spacing.{spacingLimit}
 use Rattle.standard.specs.Steel.{steelOf, fyvOf}
 use Rattle.question.specs.declared.Question.the-variants.{Field}
 use Rattle.bars.specs.Sums.{barCount, area, sumD, sumE, groupArea, groupDiameters, groupSquares}
-use Rattle.member.specs.Questions.{flangeFits, compressionFits, depthFits, beamRelation, beamBars, beamRatio, columnRelation, columnBars, meshRelation}
+use Rattle.relation.specs.Relation.{flangeFits, compressionFits, depthFits, beamRelation, columnRelation, meshRelation}
+use Rattle.reinforcement.specs.Reinforcement.{beamBars, beamRatio, columnBars}
 use Rattle.field.specs.Domain.{asked, holds, fieldHolds}
 use Rattle.field.specs.Fields.{fieldsOf, known}
 use Rattle.section.specs.Section.{sectionOf}
 use Rattle.bending.specs.Steps.{leastSteel, compressionDepth, isDeep, deepCapacity, shallowCapacity, bendingCapacity}
 use Rattle.shear.specs.Steps.{concreteShear, linkShear, shearCapacity, shearAbove, linkSpacing, leastLinks}
-use Rattle.service.specs.Steps.{
-  stressHolds,
-  steelStress,
-  stiffening,
-  meanStress,
-  crackSpacing,
-  widthOf,
-  σ,
-  q,
-  crackWidth,
-  widthLimit,
-  flexibility,
-  curvature,
-  shortTerm,
-  longTerm,
-  deflectionOf,
-  deflection,
-  spanDivisor,
-  deflectionHolds,
-}
-use Rattle.beam.specs.Checks.{
-  fromDeflection,
-  fromWidth,
-  fromStress,
-  fromLeastLinks,
-  fromSpacing,
-  fromShear,
-  fromBending,
-  fromDepth,
-  sectionOutcome,
-  beamOutcome,
-}
-use Rattle.column.specs.Steps.{steelFits, linksFit, slendernessFits, concreteArea, squashLoad, axialCapacity, axialOutcome, slendernessOutcome, linksOutcome, columnOutcome}
+use Rattle.cracking.specs.Steps.{stressHolds, steelStress, stiffening, meanStress, crackSpacing, widthOf, σ, q, crackWidth, widthLimit}
+use Rattle.deflection.specs.Steps.{flexibility, curvature, shortTerm, longTerm, deflectionOf, deflection, spanDivisor, deflectionHolds}
+use Rattle.serviceability.specs.Checks.{fromDeflection, fromWidth, fromStress}
+use Rattle.beam.specs.Checks.{fromLeastLinks, fromSpacing, fromShear, fromBending, fromDepth, sectionOutcome, beamOutcome}
+use Rattle.axial.specs.Steps.{steelFits, slendernessFits, concreteArea, squashLoad, axialCapacity}
+use Rattle.column.specs.Checks.{linksFit, axialOutcome, slendernessOutcome, linksOutcome, columnOutcome}
 use Rattle.stability.specs.Steps.{interval, between, stability}
-use Rattle.mesh.specs.Steps.{basicLength, anchorageLength, tensionLap, requiredLap, lapLength, lapOutcome, meshOutcome}
+use Rattle.anchorage.specs.Steps.{basicLength, anchorageLength}
+use Rattle.lap.specs.Steps.{tensionLap, requiredLap, lapLength}
+use Rattle.mesh.specs.Checks.{lapOutcome, meshOutcome}
 use Rattle.built.specs.declared.Built.{Built}
 use Rattle.built.specs.Slots.{beamAt, columnAt, meshAt, memberAt}
 use Rattle.built.specs.Verdict.{beamVerdict, columnVerdict, meshVerdict, memberVerdict, markInRange, builtVerdict}
-use Rattle.utilization.specs.declared.Utilization.{Utilization}
+use Rattle.ratio.specs.declared.Utilization.{Utilization}
 use Rattle.utilization.specs.declared.Answer.the-variants.{Given, Refused}
-use Rattle.utilization.specs.declared.Governing.the-variants.{Largest, None}
-use Rattle.utilization.specs.Utilization.{nought, quotient, noRatio, ratio, overFigure, overLimit, four, deflectionLimit, beamUtilization, columnUtilization, meshUtilization}
-use Rattle.utilization.specs.Governing.{governingOf}
+use Rattle.governing.specs.declared.Governing.the-variants.{Largest, None}
+use Rattle.ratio.specs.Ratio.{nought, quotient, noRatio, ratio, overFigure, overLimit, four}
+use Rattle.utilization.specs.Utilization.{deflectionLimit, beamUtilization, columnUtilization, meshUtilization}
+use Rattle.governing.specs.Governing.{governingOf}
 use Rattle.utilization.specs.Utilized.{answerOf}
 
 -- of 40 slots, those past the fields 0

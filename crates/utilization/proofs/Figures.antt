@@ -1,6 +1,6 @@
 -- Which figure of an outcome stands at each place, and that a cast of it loses nothing.
-use Prim.Native.Nat.{ℕ, _^_}
-use mathlib.Core.Path.{_≡_, refl}
+use Prim.Native.Nat.{_^_}
+use mathlib.Core.Path.{refl}
 use native.Mathlib.Omega.{arith}
 use lib.Dec.{leb}
 use Rattle.quantity.proofs.Choice.{if-case}
@@ -15,23 +15,18 @@ use Rattle.section.specs.declared.Section.{Section}
 use Rattle.section.specs.Section.{sectionOf, M, Vd}
 use Rattle.bending.specs.Steps.{leastSteel, compressionDepth, bendingCapacity}
 use Rattle.shear.specs.Steps.{shearCapacity, linkSpacing, leastLinks}
-use Rattle.service.specs.Steps.{stressHolds, crackWidth, widthLimit, deflection}
-use Rattle.beam.specs.Checks.{
-  fromDeflection,
-  fromWidth,
-  fromStress,
-  fromLeastLinks,
-  fromSpacing,
-  fromShear,
-  fromBending,
-  fromDepth,
-  sectionOutcome,
-  beamOutcome,
-}
-use Rattle.column.specs.Steps.{steelFits, linksFit, slendernessFits, axialCapacity, axialOutcome, slendernessOutcome, linksOutcome, columnOutcome}
-use Rattle.mesh.specs.Steps.{anchorageLength, lapLength, lapOutcome, meshOutcome}
+use Rattle.cracking.specs.Steps.{stressHolds, crackWidth, widthLimit}
+use Rattle.deflection.specs.Steps.{deflection}
+use Rattle.serviceability.specs.Checks.{fromDeflection, fromWidth, fromStress}
+use Rattle.beam.specs.Checks.{fromLeastLinks, fromSpacing, fromShear, fromBending, fromDepth, sectionOutcome, beamOutcome}
+use Rattle.axial.specs.Steps.{steelFits, slendernessFits, axialCapacity}
+use Rattle.column.specs.Checks.{linksFit, axialOutcome, slendernessOutcome, linksOutcome, columnOutcome}
+use Rattle.anchorage.specs.Steps.{anchorageLength}
+use Rattle.lap.specs.Steps.{lapLength}
+use Rattle.mesh.specs.Checks.{lapOutcome, meshOutcome}
 use Rattle.checks.proofs.Figures.{Short}
-use Rattle.utilization.specs.Utilization.{ExactFigure, ExactFigures}
+use Rattle.ratio.specs.Ratio.{ExactFigure, ExactFigures}
+use Rattle.ratio.proofs.Nearest.{Is}
 
 exact-figure : (f : Figure) → Below (10 ^ 9) f → ExactFigure f
 exact-figure (Reached v) h = omega arith
@@ -45,11 +40,6 @@ exact-figures o s =
       third = exact-figure (o .third) (s .third);
       fourth = exact-figure (o .fourth) (s .fourth);
     }
-
--- a figure, where it was reached, is n
-abbrev pub Is : ℕ → Figure → Type 0
-Is n (Reached v) = v ≡ n
-Is n Unreached = Unit {0}
 
 pub record BeamFigures (x : Section) (o : Outcome) : Type 0 where
   pub moment : Is (bendingCapacity x) (o .first)

@@ -2,20 +2,17 @@
 use Prim.Native.Nat.{ℕ, _*_, _^_, _≤_, _<_}
 use mathlib.Core.Path.{_≡_, refl, _∙_}
 use mathlib.Core.List.{List}
-use mathlib.Core.Bool.{Bool, true, false, false≢true}
+use mathlib.Core.Bool.{Bool, true, false}
 use native.Mathlib.Nat.{lt-of-mul-lt-mul-right, mul-le-mul-left}
 use native.Mathlib.Omega.{arith}
-use lib.Dec.{T, leb, eqb}
-use borrow.Author.Tests.{ne-eqb, eqb-false, leb-true, leb-false, le-leb, lt-leb}
-use Rattle.quantity.specs.Choice.{if_then_else_}
+use lib.Dec.{leb, eqb}
+use borrow.Author.Tests.{ne-eqb, leb-true, leb-false, le-leb, lt-leb}
 use Rattle.quantity.specs.Rounding.{down}
 use Rattle.quantity.proofs.Choice.{if-case}
 use Rattle.quantity.proofs.Rounding.{le-down, down-le, down-below}
 use Rattle.standard.specs.Concrete.{concreteOf}
 use Rattle.standard.specs.Steel.{steelOf}
 use Rattle.question.specs.declared.Question.{Question}
-use Rattle.outcome.specs.declared.Figure.{Figure}
-use Rattle.outcome.specs.declared.Figure.the-variants.{Reached, Unreached}
 use Rattle.outcome.specs.declared.Outcome.{Outcome}
 use Rattle.member.specs.Member.{Member, beam, column, mesh, Beam, Column, Mesh}
 use Rattle.member.specs.Accepted.{AcceptedMember, AcceptedBeam, AcceptedColumn, AcceptedMesh}
@@ -23,8 +20,9 @@ use Rattle.section.specs.declared.Section.{Section}
 use Rattle.section.specs.Section.{sectionOf, l₀, M, Vd}
 use Rattle.section.specs.Bounded.{Bounded}
 use Rattle.section.proofs.Bounded.{bounded}
-use Rattle.service.specs.Steps.{widthLimit, spanDivisor, deflection, deflectionHolds}
-use Rattle.service.proofs.Sizes.{divisor-between}
+use Rattle.cracking.specs.Steps.{widthLimit}
+use Rattle.deflection.specs.Steps.{spanDivisor, deflection, deflectionHolds}
+use Rattle.deflection.proofs.Sizes.{divisor-between}
 use Rattle.built.specs.declared.Built.{Built}
 use Rattle.built.specs.declared.Verdict.the-variants.{Accepted, Refused}
 use Rattle.built.specs.Slots.{beamAt, columnAt, meshAt, memberAt, memberOf}
@@ -32,30 +30,16 @@ use Rattle.built.specs.Verdict.{builtVerdict}
 use Rattle.built.proofs.Accepted.{accepted-built}
 use Rattle.checks.specs.Outcome.{outcomeOf}
 use Rattle.checks.proofs.Figures.{member-short}
-use Rattle.utilization.specs.declared.Ratio.{Ratio}
-use Rattle.utilization.specs.declared.Utilization.{Utilization}
+use Rattle.ratio.specs.declared.Utilization.{Utilization}
 use Rattle.utilization.specs.declared.Answer.{Answer}
 use Rattle.utilization.specs.declared.Answer.the-variants as answers
-use Rattle.utilization.specs.Utilization.{
-  quotient,
-  nearest,
-  noRatio,
-  ratio,
-  overFigure,
-  overLimit,
-  deflectionLimit,
-  beamUtilization,
-  columnUtilization,
-  meshUtilization,
-  utilizationOf,
-  ExactFigure,
-  ExactFigures,
-}
-use Rattle.utilization.specs.Governing.{ratiosOf}
-use Rattle.utilization.specs.Utilized.{answerOf, Decides, DecidesMember, Utilized}
-use Rattle.utilization.proofs.Division.{quotient-nearest, at-most-one, fair, nearest-fair}
-use Rattle.utilization.proofs.Largest.{Fair}
-use Rattle.utilization.proofs.Figures.{Is, exact-figures, beam-figures, axial-figure, mesh-figures}
+use Rattle.ratio.specs.Ratio.{quotient, nearest, ExactFigures}
+use Rattle.utilization.specs.Utilization.{deflectionLimit, beamUtilization, columnUtilization, meshUtilization, utilizationOf}
+use Rattle.governing.specs.Governing.{ratiosOf}
+use Rattle.utilization.specs.Utilized.{answerOf, DecidesMember, Utilized}
+use Rattle.governing.proofs.Largest.{Fair}
+use Rattle.utilization.proofs.Figures.{exact-figures, beam-figures, axial-figure, mesh-figures}
+use Rattle.ratio.proofs.Nearest.{figure-nearest, limit-nearest, figure-decides, limit-decides, no-ratio-fair, figure-fair, limit-fair}
 
 -- ---- Limits.
 
@@ -89,49 +73,6 @@ down-leb k n {d} p = go (leb (k * d) n) refl
 deflection-by-limit : (x : Section) → leb (deflection x) (deflectionLimit x) ≡ deflectionHolds x
 unfolding deflectionLimit deflectionHolds
 deflection-by-limit x = down-leb (deflection x) (100 * l₀ x) (divisor-between (l₀ x) (x .strict) .0)
-
--- ---- One utilization.
-
-some : (b : ℕ) → eqb b 0 ≡ false → 0 < b
-some b e = let n = eqb-false b 0 e in omega arith
-
-ratio-nearest : (a b : ℕ) → a < 2 ^ 53 → b < 2 ^ 53 → ratio quotient a b ≡ ratio nearest a b
-unfolding ratio
-ratio-nearest a b h k = go (eqb b 0) refl
-  where
-    go : (t : Bool) → eqb b 0 ≡ t →
-        (if t then noRatio else record { value = quotient a b; reached = true }) ≡ (if t then noRatio else record { value = nearest a b; reached = true })
-    go true e = refl
-    go false e = rw (quotient-nearest a b h (some b e) k)
-
-ratio-decides : (a b : ℕ) → b < 2 ^ 53 → Decides (ratio nearest a b .reached) (ratio nearest a b .value) (leb a b)
-unfolding ratio
-ratio-decides a b k = go (eqb b 0) refl
-  where
-    go : (t : Bool) → eqb b 0 ≡ t →
-        Decides ((if t then noRatio else record { value = nearest a b; reached = true }) .reached) ((if t then noRatio else record { value = nearest a b; reached = true }) .value) (leb a b)
-    go true e = λ r. absurd (false≢true r)
-    go false e = λ r. at-most-one a b (some b e) k
-
-figure-nearest : (a : ℕ) (f : Figure) → a < 2 ^ 53 → ExactFigure f → overFigure quotient a f ≡ overFigure nearest a f
-unfolding overFigure
-figure-nearest a (Reached v) h k = ratio-nearest a v h k
-figure-nearest a Unreached h k = refl
-
-limit-nearest : (f : Figure) (b : ℕ) → ExactFigure f → b < 2 ^ 53 → overLimit quotient f b ≡ overLimit nearest f b
-unfolding overLimit
-limit-nearest (Reached v) b h k = ratio-nearest v b h k
-limit-nearest Unreached b h k = refl
-
-figure-decides : (a n : ℕ) (f : Figure) → ExactFigure f → Is n f → Decides (overFigure nearest a f .reached) (overFigure nearest a f .value) (leb a n)
-unfolding overFigure
-figure-decides a n (Reached v) h e = rw (← e) (ratio-decides a v h)
-figure-decides a n Unreached h e = λ r. absurd (false≢true r)
-
-limit-decides : (f : Figure) (n b : ℕ) → Is n f → b < 2 ^ 53 → Decides (overLimit nearest f b .reached) (overLimit nearest f b .value) (leb n b)
-unfolding overLimit
-limit-decides (Reached v) n b e k = rw (← e) (ratio-decides v b k)
-limit-decides Unreached n b e k = λ r. absurd (false≢true r)
 
 -- ---- The four of a member.
 
@@ -184,28 +125,6 @@ member-decides (mesh mark x) a =
     }
 
 -- ---- Those of an accepted member are finite and not negative, so that the largest of them governs (`Largest`).
-
--- where it was reached
-abbrev FairRatio : Ratio → Type 0
-FairRatio r = r .reached ≡ true → T (fair (r .value))
-
-no-ratio-fair : FairRatio noRatio
-no-ratio-fair e = absurd (false≢true e)
-
-ratio-fair : (a b : ℕ) → a < 2 ^ 53 → FairRatio (ratio nearest a b)
-unfolding ratio
-ratio-fair a b h =
-    if-case FairRatio (eqb b 0) noRatio (record { value = nearest a b; reached = true }) (λ _. no-ratio-fair) (λ e _. nearest-fair a b h (some b e))
-
-figure-fair : (a : ℕ) (f : Figure) → a < 2 ^ 53 → FairRatio (overFigure nearest a f)
-unfolding overFigure
-figure-fair a (Reached v) h = ratio-fair a v h
-figure-fair a Unreached h = no-ratio-fair
-
-limit-fair : (f : Figure) (b : ℕ) → ExactFigure f → FairRatio (overLimit nearest f b)
-unfolding overLimit
-limit-fair (Reached v) b h = ratio-fair v b h
-limit-fair Unreached b h = no-ratio-fair
 
 nearest-member-fair : (m : Member) → AcceptedMember m → Fair (ratiosOf (utilizationOf nearest m (outcomeOf m)))
 unfolding beamUtilization columnUtilization meshUtilization

@@ -1,3 +1,2 @@
 pub mod Utilization
-pub mod Governing
 pub mod Utilized

@@ -1,8 +1,6 @@
 -- The utilization of a built member, and the whole promise of `utilization_of`.
 use mathlib.Core.Path.{_≡_}
-use mathlib.Core.Bool.{Bool, true}
 use lib.Dec.{leb}
-use lib.Ieee.{Float, le}
 use Rattle.standard.specs.Concrete.{concreteOf}
 use Rattle.standard.specs.Steel.{steelOf}
 use Rattle.member.specs.Member.{Member, beam, column, mesh, Column, Mesh}
@@ -10,19 +8,22 @@ use Rattle.section.specs.declared.Section.{Section}
 use Rattle.section.specs.Section.{sectionOf, M, Vd}
 use Rattle.bending.specs.Steps.{bendingCapacity}
 use Rattle.shear.specs.Steps.{shearCapacity}
-use Rattle.service.specs.Steps.{crackWidth, widthLimit, deflectionHolds}
-use Rattle.column.specs.Steps.{axialCapacity}
-use Rattle.mesh.specs.Steps.{anchorageLength, lapLength}
+use Rattle.cracking.specs.Steps.{crackWidth, widthLimit}
+use Rattle.deflection.specs.Steps.{deflectionHolds}
+use Rattle.axial.specs.Steps.{axialCapacity}
+use Rattle.anchorage.specs.Steps.{anchorageLength}
+use Rattle.lap.specs.Steps.{lapLength}
 use Rattle.built.specs.declared.Built.{Built}
 use Rattle.built.specs.declared.Verdict.{Verdict}
 use Rattle.built.specs.declared.Verdict.the-variants as verdicts
 use Rattle.built.specs.Slots.{memberOf}
 use Rattle.built.specs.Verdict.{builtVerdict}
 use Rattle.checks.specs.Outcome.{outcomeOf}
-use Rattle.utilization.specs.declared.Utilization.{Utilization}
+use Rattle.ratio.specs.declared.Utilization.{Utilization}
 use Rattle.utilization.specs.declared.Answer.{Answer}
 use Rattle.utilization.specs.declared.Answer.the-variants.{Given, Refused}
-use Rattle.utilization.specs.Utilization.{one, quotient, nearest, utilizationOf}
+use Rattle.ratio.specs.Ratio.{quotient, nearest, Decides}
+use Rattle.utilization.specs.Utilization.{utilizationOf}
 
 -- the questions of a single built member; every refusal names member 1
 abbrev pub answerBy : Verdict → Member → Answer
@@ -31,10 +32,6 @@ answerBy (verdicts.Refused q) m = Refused (record { question = q; member = 1 })
 
 unfoldable pub answerOf : Built → Answer
 answerOf x = answerBy (builtVerdict (x .mark) (x .kind) (x .fields .v)) (memberOf x)
-
--- a utilization that was reached is at most 1.0 exactly where its check holds
-abbrev pub Decides : Bool → Float → Bool → Type 0
-Decides reached value holds = reached ≡ true → le value one ≡ holds
 
 pub record DecidesBeam (x : Section) (u : Utilization) : Type 0 where
   pub moment : Decides (u .firstReached) (u .first) (leb (M x) (bendingCapacity x))

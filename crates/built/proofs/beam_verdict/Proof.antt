@@ -1,5 +1,6 @@
 -- `built::beam_verdict` meets its contract.
-use Rattle.member.specs.Questions.{beamRelation, beamBars, beamRatio}
+use Rattle.relation.specs.Relation.{beamRelation}
+use Rattle.reinforcement.specs.Reinforcement.{beamBars, beamRatio}
 use Rattle.built.specs.Verdict.{beamVerdict}
 use Rattle.built.proofs.Accepted.{beam-in-range-of, said}
 use mathlib.Core.Path.{sym, _∙_}

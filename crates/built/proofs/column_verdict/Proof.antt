@@ -1,5 +1,6 @@
 -- `built::column_verdict` meets its contract.
-use Rattle.member.specs.Questions.{columnRelation, columnBars}
+use Rattle.relation.specs.Relation.{columnRelation}
+use Rattle.reinforcement.specs.Reinforcement.{columnBars}
 use Rattle.built.specs.Verdict.{columnVerdict}
 use Rattle.built.proofs.Accepted.{column-groups-of, said}
 use borrow.Author.Needs.{needs}

@@ -1,5 +1,5 @@
 -- `built::mesh_verdict` meets its contract.
-use Rattle.member.specs.Questions.{meshRelation}
+use Rattle.relation.specs.Relation.{meshRelation}
 use Rattle.built.specs.Verdict.{meshVerdict}
 use Rattle.built.proofs.Accepted.{said}
 use borrow.Author.Needs.{needs}

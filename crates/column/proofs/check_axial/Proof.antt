@@ -1,8 +1,7 @@
 -- `column::check_axial` meets its contract.
+use mathlib.Core.Path.{_∙_}
 use borrow.Author.Tests.{le-leb, lt-leb}
-use native.Mathlib.Omega.{arith}
-use Rattle.member.specs.Member.{columnOf}
-use Rattle.column.specs.Steps.{axialCapacity, axialOutcome}
+use Rattle.column.specs.Checks.{axialOutcome}
 use borrow.Author.Needs.{needs}
 use Rattle.column.proofs.check_axial.Statement.{statement}
 use Rattle.column.proofs.check_axial.Tie as tie
@@ -25,14 +24,18 @@ reached-requires-2 c κs = search needs
 returns : tie.Need-returns
 unfolding axialOutcome
 returns c =
-    let a = c .before .before .before .before .before .args in
-    rw (le-leb (a .x .n .0) (axialCapacity (columnOf (a .x)) (a .concrete) (a .steel)) (omega arith)) (cc)
+    let k = c .before .before in
+    let n = k .before .in-newtons .ensures ∙ k .before .before .axial-capacity .ensures in
+    let fits = rw (k .in-newtons2 .ensures, n) at (c .before .if1 .taken) in
+    rw (le-leb _ _ fits, c .reached .ensures, n)
 
 returns-2 : tie.Need-returns-2
 unfolding axialOutcome
 returns-2 c =
-    let a = c .before .before .before .before .before .args in
-    rw (lt-leb (a .x .n .0) (axialCapacity (columnOf (a .x)) (a .concrete) (a .steel)) (omega arith)) (cc)
+    let k = c .before .before in
+    let n = k .before .in-newtons .ensures ∙ k .before .before .axial-capacity .ensures in
+    let short = rw (k .in-newtons2 .ensures, n) at (c .before .if1 .left) in
+    rw (lt-leb _ _ short, c .reached2 .ensures, n)
 
 pub check-axial-spec : {M : Type 1} → statement M
 check-axial-spec =

@@ -1,5 +1,5 @@
 -- `column::check_links` meets its contract.
-use Rattle.column.specs.Steps.{linksOutcome}
+use Rattle.column.specs.Checks.{linksOutcome}
 use borrow.Author.Needs.{needs}
 use Rattle.column.proofs.check_links.Statement.{statement}
 use Rattle.column.proofs.check_links.Tie as tie

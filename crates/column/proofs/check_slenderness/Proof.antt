@@ -1,6 +1,6 @@
 -- `column::check_slenderness` meets its contract.
 use mathlib.Core.Path.{sym, _∙_}
-use Rattle.column.specs.Steps.{slendernessOutcome}
+use Rattle.column.specs.Checks.{slendernessOutcome}
 use borrow.Author.Needs.{needs}
 use Rattle.column.proofs.check_slenderness.Statement.{statement}
 use Rattle.column.proofs.check_slenderness.Tie as tie

@@ -1,6 +1,6 @@
 -- `column::check_with` meets its contract.
 use mathlib.Core.Path.{sym, _∙_}
-use Rattle.column.specs.Steps.{columnOutcome}
+use Rattle.column.specs.Checks.{columnOutcome}
 use borrow.Author.Needs.{needs}
 use Rattle.column.proofs.check_with.Statement.{statement}
 use Rattle.column.proofs.check_with.Tie as tie

@@ -2,7 +2,7 @@
 use native.Mathlib.Omega.{arith}
 use Rattle.member.specs.Member.{columnOf}
 use Rattle.bars.proofs.Groups.{smallest-most}
-use Rattle.column.specs.Steps.{linksFit}
+use Rattle.column.specs.Checks.{linksFit}
 use borrow.Author.Needs.{needs}
 use Rattle.column.proofs.links_fit.Statement.{statement}
 use Rattle.column.proofs.links_fit.Tie as tie
@@ -39,7 +39,11 @@ both-requires-3 c κs = search needs
 
 returns : tie.Need-returns
 unfolding linksFit
-returns c = cc
+returns c =
+    let k = c .before .before in
+    let s = k .before .before in
+    let l = s .before .before in
+    rw (c .both3 .ensures, c .before .both2 .ensures, k .both .ensures, k .before .in-millimetres2 .ensures, s .smallest-diameter .ensures, l .largest-diameter .ensures, l .before .in-millimetres .ensures)
 
 pub links-fit-spec : {M : Type 1} → statement M
 links-fit-spec =

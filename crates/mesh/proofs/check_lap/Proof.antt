@@ -1,8 +1,7 @@
 -- `mesh::check_lap` meets its contract.
+use mathlib.Core.Path.{_∙_}
 use borrow.Author.Tests.{le-leb, lt-leb}
-use native.Mathlib.Omega.{arith}
-use Rattle.member.specs.Member.{meshOf}
-use Rattle.mesh.specs.Steps.{lapLength, lapOutcome}
+use Rattle.mesh.specs.Checks.{lapOutcome}
 use borrow.Author.Needs.{needs}
 use Rattle.mesh.proofs.check_lap.Statement.{statement}
 use Rattle.mesh.proofs.check_lap.Tie as tie
@@ -31,14 +30,20 @@ lapped-requires-2 c κs = search needs
 returns : tie.Need-returns
 unfolding lapOutcome
 returns c =
-    let x = meshOf (c .before .before .before .before .before .before .args .x) in
-    rw (le-leb (lapLength x) (x .lap) (omega arith)) (cc)
+    let k = c .before .before .before in
+    let s = k .before .before in
+    let l = k .before .in-millimetres .ensures ∙ s .lap-length .ensures in
+    let fits = rw (l, k .in-millimetres2 .ensures) at (c .before .before .if1 .taken) in
+    rw (le-leb _ _ fits, c .lapped .ensures, c .before .in-millimetres3 .ensures, s .before .pre .1, l)
 
 returns-2 : tie.Need-returns-2
 unfolding lapOutcome
 returns-2 c =
-    let x = meshOf (c .before .before .before .before .before .before .args .x) in
-    rw (lt-leb (lapLength x) (x .lap) (omega arith)) (cc)
+    let k = c .before .before .before in
+    let s = k .before .before in
+    let l = k .before .in-millimetres .ensures ∙ s .lap-length .ensures in
+    let short = rw (l, k .in-millimetres2 .ensures) at (c .before .before .if1 .left) in
+    rw (lt-leb _ _ short, c .lapped2 .ensures, c .before .in-millimetres4 .ensures, s .before .pre .1, l)
 
 pub check-lap-spec : {M : Type 1} → statement M
 check-lap-spec =

@@ -16,7 +16,9 @@ of-units-requires : tie.Need-of-units-requires
 of-units-requires c κs = search needs
 
 returns : tie.Need-returns
-returns c = cc
+returns c =
+    let k = c .before .before in
+    rw (c .of-units .ensures, c .before .of-hundredths2 .ensures, k .of-hundredths .ensures, k .before .of-tenths .ensures)
 
 pub concrete-row-spec : {M : Type 1} → statement M
 concrete-row-spec =

@@ -21,11 +21,15 @@ of-millimetres-requires-2 c κs = search needs
 
 returns : tie.Need-returns
 unfolding spacingLimit
-returns c = rw (c .before .before .if1 .taken) (cc)
+returns c =
+    let k = c .before .before in
+    rw (k .if1 .taken, c .of-millimetres .ensures, c .before .by-height .ensures, k .before .in-millimetres .ensures)
 
 returns-2 : tie.Need-returns-2
 unfolding spacingLimit
-returns-2 c = rw (c .before .before .if1 .left) (cc)
+returns-2 c =
+    let k = c .before .before in
+    rw (k .if1 .left, c .of-millimetres2 .ensures, c .before .by-height2 .ensures, k .before .in-millimetres .ensures)
 
 pub spacing-limit-spec : {M : Type 1} → statement M
 spacing-limit-spec =

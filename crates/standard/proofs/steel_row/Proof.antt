@@ -16,7 +16,9 @@ of-units-requires-4 : tie.Need-of-units-requires-4
 of-units-requires-4 c κs = search needs
 
 returns : tie.Need-returns
-returns c = cc
+returns c =
+    let k = c .before .before in
+    rw (c .of-units4 .ensures, c .before .of-units3 .ensures, k .of-units2 .ensures, k .before .of-units .ensures)
 
 pub steel-row-spec : {M : Type 1} → statement M
 steel-row-spec =

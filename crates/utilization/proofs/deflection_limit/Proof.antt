@@ -1,5 +1,5 @@
 -- `utilization::deflection_limit` meets its contract.
-use Rattle.service.proofs.Sizes.{divisor-between}
+use Rattle.deflection.proofs.Sizes.{divisor-between}
 use Rattle.utilization.proofs.Utilized.{limit-found}
 use borrow.Author.Needs.{needs}
 use Rattle.utilization.proofs.deflection_limit.Statement.{statement}

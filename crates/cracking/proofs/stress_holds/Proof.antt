@@ -1,0 +1,40 @@
+-- `cracking::stress_holds` meets its contract.
+use native.Mathlib.Omega.{arith}
+use Prim.Native.Nat.{_-_, _*_}
+use Rattle.quantity.proofs.Product.{product-most}
+use Rattle.cracking.specs.Steps.{stressHolds}
+use borrow.Author.Needs.{needs}
+use Rattle.cracking.proofs.stress_holds.Statement.{statement}
+use Rattle.cracking.proofs.stress_holds.Tie as tie
+
+mul-result : tie.Need-mul-result
+mul-result c = search needs
+
+in-units-requires : tie.Need-in-units-requires
+in-units-requires c κs = search needs
+
+mul-result-2 : tie.Need-mul-result-2
+mul-result-2 c = search needs
+
+mul-result-3 : tie.Need-mul-result-3
+mul-result-3 c =
+    omega (arith, product-most (87 * c .before .in-units .result) (c .before .before .before .args .x .depth .0) 52200 2000 (omega arith))
+
+mul-result-4 : tie.Need-mul-result-4
+mul-result-4 c =
+    let x = c .before .before .before .before .args .x in
+    let u = c .before .before .in-units .result in
+    omega (
+      arith,
+      product-most (87 * u * x .depth .0) (x .tension) 104400000 800000
+          (omega (arith, product-most (87 * u) (x .depth .0) 52200 2000 (omega arith))),
+    )
+
+returns : tie.Need-returns
+unfolding stressHolds
+returns c = rw (c .before .before .in-units .ensures)
+
+pub stress-holds-spec : {M : Type 1} → statement M
+stress-holds-spec =
+    tie.close
+    (tie.spec mul-result in-units-requires mul-result-2 mul-result-3 mul-result-4 returns)

@@ -1,0 +1,103 @@
+// Cracking of a beam under service loads: steel stress (4.4.1), crack width (4.4.2).
+ghost use mathlib.Core.Path.{_≡_};
+ghost use mathlib.Core.Bool.{true};
+ghost use Prim.Native.Nat.{_*_, _≤_};
+ghost use Rattle.section.specs.Section.{b, c, G, W, S};
+ghost use Rattle.section.specs.Bounded.{Bounded};
+ghost use Rattle.cracking.specs.Steps.{stressHolds, steelStress, stiffening, meanStress, crackSpacing, widthOf, σ, q, crackWidth, widthLimit};
+use quantity::clamped;
+use quantity::div_down;
+use quantity::div_up;
+use quantity::larger;
+use quantity::less;
+use quantity::smaller;
+use section::Section;
+
+// 4.4.1.
+pub fn stress_holds(x: Section) -> bool
+    requires { ⌜ Bounded x ⌝ }
+    ensures { λ r. ⌜ r ≡ stressHolds x ⌝ }
+{
+    1000000 * x.mq <= 87 * x.steel.fyk.in_units() * x.depth.0 * x.tension
+}
+
+fn steel_stress_of(mq: u64, h0: u64, s: u64) -> u64
+    requires { ⌜ (mq ≤ 100000000) × (1 ≤ h0) × (h0 ≤ 2000) × (1 ≤ s) × (s ≤ 800000) ⌝ }
+    ensures { λ r. ⌜ r ≡ steelStress mq h0 s ⌝ }
+{
+    div_up(10000000000 * mq, 87 * h0 * s)
+}
+
+// σ, 0.0001 N/mm².
+pub fn steel_stress(x: Section) -> u64
+    requires { ⌜ (Bounded x) × (stressHolds x ≡ true) ⌝ }
+    ensures { λ r. ⌜ (r ≡ σ x) × (r ≤ 6000000) ⌝ }
+{
+    steel_stress_of(x.mq, x.depth.0, x.tension)
+}
+
+fn stiffening_of(ftk: u64, w: u64, s: u64) -> u64
+    requires { ⌜ (ftk ≤ 400) × (w ≤ 10000000) × (1 ≤ s) ⌝ }
+    ensures { λ r. ⌜ r ≡ stiffening ftk w s ⌝ }
+{
+    div_down(325 * ftk * w, s)
+}
+
+fn mean_stress_of(stress: u64, taken: u64) -> u64
+    requires { ⌜ stress ≤ 6000000 ⌝ }
+    ensures { λ r. ⌜ (r ≡ meanStress stress taken) × (r ≤ stress) ⌝ }
+{
+    let fifth = div_up(stress, 5);
+    let more = div_up(11 * stress, 10);
+    smaller(stress, larger(fifth, less(more, taken)))
+}
+
+fn weighted_area(x: Section) -> u64
+    requires { ⌜ Bounded x ⌝ }
+    ensures { λ r. ⌜ (r ≡ W x) × (r ≤ 10000000) ⌝ }
+{
+    x.b.0 * x.h.0 + 2 * x.flange
+}
+
+// q, the mean stress between cracks, from σ.
+pub fn mean_stress(x: Section, stress: u64) -> u64
+    requires { ⌜ (Bounded x) × (stress ≡ σ x) × (stress ≤ 6000000) ⌝ }
+    ensures { λ r. ⌜ (r ≡ q x) × (r ≤ 6000000) ⌝ }
+{
+    mean_stress_of(
+        stress,
+        stiffening_of(x.concrete.ftk.in_hundredths(), weighted_area(x), x.tension),
+    )
+}
+
+fn crack_spacing_of(c: u64, e: u64, w: u64, d: u64, s: u64) -> u64
+    requires { ⌜ (e ≤ 50 * d) × (w ≤ 100 * s) × (w ≤ 10000000) × (1 ≤ d) × (d ≤ 2000) × (1 ≤ s) × (s ≤ 800000) ⌝ }
+    ensures { λ r. ⌜ (r ≡ crackSpacing c e w d s) × (r ≤ 212350) ⌝ }
+{
+    190 * clamped(20, 65, c) + div_up(40 * e * w, d * s)
+}
+
+fn width_of(mean: u64, spacing: u64) -> u64
+    requires { ⌜ (mean ≤ 6000000) × (spacing ≤ 212350) ⌝ }
+    ensures { λ r. ⌜ r ≡ widthOf mean spacing ⌝ }
+{
+    div_up(19 * mean * spacing, 2000000000)
+}
+
+// 4.4.2: the crack width, 0.001 mm, from q.
+pub fn crack_width(x: Section, mean: u64) -> u64
+    requires { ⌜ (Bounded x) × (G x ≤ 50 * S x) × (mean ≡ q x) × (mean ≤ 6000000) ⌝ }
+    ensures { λ r. ⌜ r ≡ crackWidth x ⌝ }
+{
+    width_of(
+        mean,
+        crack_spacing_of(x.c.0, x.squares, weighted_area(x), x.diameters, x.tension),
+    )
+}
+
+// Its limit.
+pub fn width_limit(x: Section) -> u64
+    ensures { λ r. ⌜ r ≡ widthLimit x ⌝ }
+{
+    if x.environment == 1 { 300 } else { 200 }
+}

@@ -1,0 +1,4 @@
+pub mod Rounded
+pub mod Sizes
+pub mod Clause
+pub mod Safe

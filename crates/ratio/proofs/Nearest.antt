@@ -1,0 +1,84 @@
+-- A utilization is the nearest double, and decides its check; one that was reached is finite and not negative.
+use Prim.Native.Nat.{ℕ, _^_, _<_}
+use mathlib.Core.Path.{_≡_, refl}
+use mathlib.Core.Bool.{Bool, true, false, false≢true}
+use native.Mathlib.Omega.{arith}
+use lib.Dec.{T, leb, eqb}
+use borrow.Author.Tests.{eqb-false}
+use Rattle.quantity.specs.Choice.{if_then_else_}
+use Rattle.quantity.proofs.Choice.{if-case}
+use Rattle.outcome.specs.declared.Figure.{Figure}
+use Rattle.outcome.specs.declared.Figure.the-variants.{Reached, Unreached}
+use Rattle.ratio.specs.declared.Ratio.{Ratio}
+use Rattle.ratio.specs.Ratio.{quotient, nearest, noRatio, ratio, overFigure, overLimit, ExactFigure, Decides}
+use Rattle.ratio.proofs.Division.{quotient-nearest, at-most-one, fair, nearest-fair}
+
+-- a figure, where it was reached, is n
+abbrev pub Is : ℕ → Figure → Type 0
+Is n (Reached v) = v ≡ n
+Is n Unreached = Unit {0}
+
+some : (b : ℕ) → eqb b 0 ≡ false → 0 < b
+some b e = let n = eqb-false b 0 e in omega arith
+
+ratio-nearest : (a b : ℕ) → a < 2 ^ 53 → b < 2 ^ 53 → ratio quotient a b ≡ ratio nearest a b
+unfolding ratio
+ratio-nearest a b h k = go (eqb b 0) refl
+  where
+    go : (t : Bool) → eqb b 0 ≡ t →
+        (if t then noRatio else record { value = quotient a b; reached = true }) ≡ (if t then noRatio else record { value = nearest a b; reached = true })
+    go true e = refl
+    go false e = rw (quotient-nearest a b h (some b e) k)
+
+ratio-decides : (a b : ℕ) → b < 2 ^ 53 → Decides (ratio nearest a b .reached) (ratio nearest a b .value) (leb a b)
+unfolding ratio
+ratio-decides a b k = go (eqb b 0) refl
+  where
+    go : (t : Bool) → eqb b 0 ≡ t →
+        Decides ((if t then noRatio else record { value = nearest a b; reached = true }) .reached) ((if t then noRatio else record { value = nearest a b; reached = true }) .value) (leb a b)
+    go true e = λ r. absurd (false≢true r)
+    go false e = λ r. at-most-one a b (some b e) k
+
+pub figure-nearest : (a : ℕ) (f : Figure) → a < 2 ^ 53 → ExactFigure f → overFigure quotient a f ≡ overFigure nearest a f
+unfolding overFigure
+figure-nearest a (Reached v) h k = ratio-nearest a v h k
+figure-nearest a Unreached h k = refl
+
+pub limit-nearest : (f : Figure) (b : ℕ) → ExactFigure f → b < 2 ^ 53 → overLimit quotient f b ≡ overLimit nearest f b
+unfolding overLimit
+limit-nearest (Reached v) b h k = ratio-nearest v b h k
+limit-nearest Unreached b h k = refl
+
+pub figure-decides : (a n : ℕ) (f : Figure) → ExactFigure f → Is n f → Decides (overFigure nearest a f .reached) (overFigure nearest a f .value) (leb a n)
+unfolding overFigure
+figure-decides a n (Reached v) h e = rw (← e) (ratio-decides a v h)
+figure-decides a n Unreached h e = λ r. absurd (false≢true r)
+
+pub limit-decides : (f : Figure) (n b : ℕ) → Is n f → b < 2 ^ 53 → Decides (overLimit nearest f b .reached) (overLimit nearest f b .value) (leb n b)
+unfolding overLimit
+limit-decides (Reached v) n b e k = rw (← e) (ratio-decides v b k)
+limit-decides Unreached n b e k = λ r. absurd (false≢true r)
+
+-- ---- Finite and not negative.
+
+-- where it was reached
+abbrev FairRatio : Ratio → Type 0
+FairRatio r = r .reached ≡ true → T (fair (r .value))
+
+pub no-ratio-fair : FairRatio noRatio
+no-ratio-fair e = absurd (false≢true e)
+
+ratio-fair : (a b : ℕ) → a < 2 ^ 53 → FairRatio (ratio nearest a b)
+unfolding ratio
+ratio-fair a b h =
+    if-case FairRatio (eqb b 0) noRatio (record { value = nearest a b; reached = true }) (λ _. no-ratio-fair) (λ e _. nearest-fair a b h (some b e))
+
+pub figure-fair : (a : ℕ) (f : Figure) → a < 2 ^ 53 → FairRatio (overFigure nearest a f)
+unfolding overFigure
+figure-fair a (Reached v) h = ratio-fair a v h
+figure-fair a Unreached h = no-ratio-fair
+
+pub limit-fair : (f : Figure) (b : ℕ) → ExactFigure f → FairRatio (overLimit nearest f b)
+unfolding overLimit
+limit-fair (Reached v) b h = ratio-fair v b h
+limit-fair Unreached b h = no-ratio-fair

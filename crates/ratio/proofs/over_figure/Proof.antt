@@ -1,0 +1,30 @@
+-- `ratio::over_figure` meets its contract.
+use Rattle.ratio.specs.Ratio.{overFigure}
+use borrow.Author.Needs.{needs}
+use Rattle.ratio.proofs.over_figure.Statement.{statement}
+use Rattle.ratio.proofs.over_figure.Tie as tie
+
+enum-known-f : tie.Need-enum-known-f
+enum-known-f c = search needs
+
+ratio-of-requires : tie.Need-ratio-of-requires
+ratio-of-requires c κs = (c .before .before .before .pre .0, rw (c .before .f .given .1) at (c .before .before .before .pre .1))
+
+enum-told : tie.Need-enum-told
+enum-told c = search needs
+
+no-ratio-requires : tie.Need-no-ratio-requires
+no-ratio-requires c κs = search needs
+
+returns : tie.Need-returns
+unfolding overFigure
+returns c = rw (c .before .before .f .given .1) (c .ratio-of .ensures)
+
+returns-2 : tie.Need-returns-2
+unfolding overFigure
+returns-2 c = rw (c .before .enum-told .given .1) (c .no-ratio .ensures)
+
+pub over-figure-spec : {M : Type 1} → statement M
+over-figure-spec =
+    tie.close
+    (tie.spec enum-known-f ratio-of-requires enum-told no-ratio-requires returns returns-2)
