@@ -92,8 +92,7 @@ fn member_utilization(x: Built, o: Outcome) -> Utilization
     requires { ⌜ (AcceptedMember (memberOf x)) × (ExactFigures o) ⌝ }
     ensures { λ r. ⌜ r ≡ utilizationOf quotient (memberOf x) o ⌝ }
 {
-    let t = x.fields;
-    let v = t.v;
+    let v = x.fields.v;
     let kind = x.kind;
     match kind {
         1 => beam_utilization(section_of(beam_of(&v)), o),
@@ -106,8 +105,7 @@ fn member_utilization(x: Built, o: Outcome) -> Utilization
 pub fn utilization_of(x: Built) -> Answer
     ensures { λ r. ⌜ Utilized x r ⌝ }
 {
-    let t = x.fields;
-    let v = t.v;
+    let v = x.fields.v;
     match built_verdict(x) {
         Verdict::Refused(q) => Answer::Refused(Refusal {
             question: q,

@@ -16,11 +16,11 @@ enum-told : tie.Need-enum-told
 enum-told c = search needs
 
 check-member-requires : tie.Need-check-member-requires
-check-member-requires c κs = accepted-built _ _ _ (sym (c .before .before .built-verdict .ensures) ∙ c .enum-told .given .1)
+check-member-requires c κs = accepted-built _ _ _ (sym (c .before .before .before .built-verdict .ensures) ∙ c .before .enum-told .given .1)
 
 member-utilization-requires : tie.Need-member-utilization-requires
 member-utilization-requires c κs =
-    let t = c .before in
+    let t = c .before .before in
     accepted-exact _ (sym (t .before .before .built-verdict .ensures) ∙ t .enum-told .given .1) (c .check-member .ensures)
 
 returns : tie.Need-returns
@@ -29,7 +29,7 @@ returns c = refused _ _ (sym (c .before .before .before .built-verdict .ensures)
 returns-2 : tie.Need-returns-2
 returns-2 c =
     let k = c .before in
-    let t = k .before in
+    let t = k .before .before in
     given _ (sym (t .before .before .built-verdict .ensures) ∙ t .enum-told .given .1) (rw (c .member-utilization .ensures, k .check-member .ensures))
 
 pub utilization-of-spec : {M : Type 1} → statement M
