@@ -2,7 +2,7 @@
 ghost use mathlib.Core.Path.{_≡_};
 ghost use Prim.Native.Nat.{min};
 ghost use lib.ListN.{take};
-ghost use Rattle.bars.specs.Sums.{barCount, area, sumD, sumE, largest, smallest, groupArea, groupDiameters, groupSquares, added, TotalsFit, TotalsOf};
+ghost use Rattle.bars.specs.Sums.{barCount, area, groupArea, groupDiameters, groupSquares, added, TotalsFit, TotalsOf};
 ghost use Rattle.bars.specs.Accepted.{AcceptedGroup, AcceptedGroups};
 use quantity::larger;
 use quantity::smaller;
@@ -102,36 +102,4 @@ pub fn steel_area(groups: [Group; 4], count: usize) -> u64
     ensures { λ r. ⌜ r ≡ area (take count groups) ⌝ }
 {
     totals_of(groups, count).area
-}
-
-// D, the sum of n·d.
-pub fn sum_diameters(groups: [Group; 4], count: usize) -> u64
-    requires { ⌜ AcceptedGroups (take count groups) ⌝ }
-    ensures { λ r. ⌜ r ≡ sumD (take count groups) ⌝ }
-{
-    totals_of(groups, count).diameters
-}
-
-// E, the sum of n·d².
-pub fn sum_squares(groups: [Group; 4], count: usize) -> u64
-    requires { ⌜ AcceptedGroups (take count groups) ⌝ }
-    ensures { λ r. ⌜ r ≡ sumE (take count groups) ⌝ }
-{
-    totals_of(groups, count).squares
-}
-
-// The largest diameter, 0 without groups.
-pub fn largest_diameter(groups: [Group; 4], count: usize) -> u64
-    requires { ⌜ AcceptedGroups (take count groups) ⌝ }
-    ensures { λ r. ⌜ r ≡ largest (take count groups) ⌝ }
-{
-    totals_of(groups, count).largest
-}
-
-// The smallest diameter, 50 without groups.
-pub fn smallest_diameter(groups: [Group; 4], count: usize) -> u64
-    requires { ⌜ AcceptedGroups (take count groups) ⌝ }
-    ensures { λ r. ⌜ r ≡ smallest (take count groups) ⌝ }
-{
-    totals_of(groups, count).smallest
 }

@@ -12,8 +12,7 @@ ghost use Rattle.column.specs.Checks.{linksFit, axialOutcome, slendernes
 use axial::axial_capacity;
 use axial::slenderness_fits;
 use axial::steel_fits;
-use bars::largest_diameter;
-use bars::smallest_diameter;
+use bars::totals_of;
 use member::Column;
 use outcome::Check;
 use outcome::Figure;
@@ -31,11 +30,12 @@ fn links_fit(x: Column) -> bool
 {
     let groups = x.groups;
     let s = x.s.in_millimetres();
-    let quarter = largest_diameter(groups, x.count) <= 4 * (x.link as u64);
-    let bars = s <= 15 * smallest_diameter(groups, x.count);
+    let bars = totals_of(groups, x.count);
+    let quarter = bars.largest <= 4 * (x.link as u64);
+    let spaced = s <= 15 * bars.smallest;
     both(
         quarter,
-        both(s <= 400, both(s <= x.b.in_millimetres(), bars)),
+        both(s <= 400, both(s <= x.b.in_millimetres(), spaced)),
     )
 }
 

@@ -64,6 +64,12 @@ decimal-hundred v h =
     let u : v % 100 % 10 ≡ v % 10 = omega arith in
     rw (q, t, u, decimal-more v (omega arith), decimal-more (v / 10) (omega arith)) (append-assoc (decimal (v / 10 / 10)) _ _)
 
+pub decimal-myriad : (v : ℕ) → 10000 ≤ v
+    → decimal v ≡ (decimal (v / 10000) ++ ((48 + v / 100 % 100 / 10) ∷ (48 + v / 100 % 100 % 10) ∷ [])) ++ ((48 + v % 100 / 10) ∷ (48 + v % 100 % 10) ∷ [])
+decimal-myriad v h =
+    let q : v / 10000 ≡ v / 100 / 100 = omega arith in
+    rw (q, decimal-hundred v (omega arith), decimal-hundred (v / 100) (omega arith))
+
 pub decimal-induction : (P : ℕ → Type 0) → ((v : ℕ) → v < 10 → P v) → ((v : ℕ) → 10 ≤ v → P (v / 10) → P v) → (v : ℕ) → P v
 decimal-induction P one more v = go (suc v) v (omega arith)
   where

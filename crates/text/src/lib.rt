@@ -58,18 +58,32 @@ fn put_two(out: &mut [u8], at: usize, two: u64) -> usize
     put_byte(out, p, digit(two % 10))
 }
 
-// `v` in decimal from `at` on, without leading zeros. It takes two digits at a time, which halves its calls of itself.
-pub fn put_decimal(out: &mut [u8], at: usize, v: u64) -> usize
+// A number below 100 in decimal from `at` on.
+fn put_short(out: &mut [u8], at: usize, v: u64) -> usize
+    requires { ⌜ v < 100 ⌝ }
     ensures { λ r. ⌜ Put (now (out .entry)) at (decimal v) (now (out .exit)) r ⌝ }
 {
     if v < 10 {
-        return put_byte(out, at, digit(v));
+        put_byte(out, at, digit(v))
+    } else {
+        put_two(out, at, v)
     }
+}
+
+// `v` in decimal from `at` on, without leading zeros: four digits at a time, to call itself seldom.
+pub fn put_decimal(out: &mut [u8], at: usize, v: u64) -> usize
+    ensures { λ r. ⌜ Put (now (out .entry)) at (decimal v) (now (out .exit)) r ⌝ }
+{
     if v < 100 {
-        return put_two(out, at, v);
+        return put_short(out, at, v);
     }
-    let p = put_decimal(out, at, v / 100);
-    put_two(out, p, v % 100)
+    if v < 10000 {
+        let p = put_short(out, at, v / 100);
+        return put_two(out, p, v % 100);
+    }
+    let p = put_decimal(out, at, v / 10000);
+    let q = put_two(out, p, v / 100 % 100);
+    put_two(out, q, v % 100)
 }
 
 fn smaller(a: usize, b: usize) -> usize
