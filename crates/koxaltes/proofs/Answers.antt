@@ -2,10 +2,6 @@
 use Prim.Native.Nat.{ℕ}
 use mathlib.Core.Path.{_≡_, refl, ap, subst, _∙_}
 use mathlib.Core.List.{List}
-use native.Mathlib.Omega.{arith}
-use Rattle.question.specs.declared.Question.{Question}
-use Rattle.question.specs.declared.Question.the-variants.{Size, NumberEnds, NumberForm, Count, Mark, Kind, Field, Relation, Bars, Ratio, Trailing, Buffer}
-use Rattle.question.specs.Question.{numberOf}
 use Rattle.bars.specs.declared.Group.{Group}
 use Rattle.built.specs.declared.Built.{Built}
 use Rattle.built.specs.Slots.{memberOf}
@@ -13,35 +9,12 @@ use Rattle.lent.specs.declared.Lent.{Lent}
 use Rattle.lent.specs.Lent.{four, lentSlots, builtOf, lentMember}
 use Rattle.lent.proofs.Counts.{lent-verdict}
 use Rattle.report.specs.declared.Answer.{Answer}
-use Rattle.report.specs.declared.Answer.the-variants.{Written, Refused}
 use Rattle.report.specs.Report.{memberReportOf}
 use Rattle.report.specs.Claim.{Reported, MemberReported}
-use Rattle.koxaltes.specs.declared.Told.{Told}
-use Rattle.koxaltes.specs.Told.{told, lentReportOf}
-use Rattle.koxaltes.specs.Claim.{ReportTold, MemberTold}
-
--- no question has the number 0
-pub numbered : (q : Question) → numberOf q ≡ 0 → ⊥
-numbered Size e = omega arith
-numbered NumberEnds e = omega arith
-numbered NumberForm e = omega arith
-numbered Count e = omega arith
-numbered Mark e = omega arith
-numbered Kind e = omega arith
-numbered Field e = omega arith
-numbered Relation e = omega arith
-numbered Bars e = omega arith
-numbered Ratio e = omega arith
-numbered Trailing e = omega arith
-numbered Buffer e = omega arith
-
--- tag 0 is a text that was written
-was-written : (a : Answer) → told a .question ≡ 0 → a ≡ Written (told a .length)
-was-written (Written n) e = refl
-was-written (Refused r) e = absurd (numbered (r .question) e)
-
-written : {a : Answer} {r : Told} → r ≡ told a → r .question ≡ 0 → a ≡ Written (r .length)
-written {a} e z = rw e (was-written a (rw e at z))
+use Rattle.told.specs.declared.Told.{Told}
+use Rattle.told.specs.Told.{told}
+use Rattle.told.proofs.Tags.{written}
+use Rattle.koxaltes.specs.Claim.{lentReportOf, ReportTold, MemberTold}
 
 pub report-told : {src before after : List ℕ} {a : Answer} {r : Told} → Reported src before after a → r ≡ told a → ReportTold src before after r
 report-told p e = record {

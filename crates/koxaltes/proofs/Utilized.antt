@@ -7,28 +7,12 @@ use Rattle.built.specs.Slots.{memberOf}
 use Rattle.lent.specs.declared.Lent.{Lent}
 use Rattle.lent.specs.Lent.{four, lentSlots, builtOf, lentMember}
 use Rattle.lent.proofs.Counts.{lent-verdict}
-use Rattle.ratio.specs.declared.Utilization.{Utilization}
-use Rattle.governing.specs.declared.Governing.{Governing}
-use Rattle.governing.specs.declared.Governing.the-variants.{Largest, None}
 use Rattle.utilization.specs.declared.Answer.{Answer}
-use Rattle.utilization.specs.declared.Answer.the-variants.{Given, Refused}
-use Rattle.governing.specs.Governing.{governingOf}
 use Rattle.utilization.specs.Utilized.{answerOf, Utilized}
-use Rattle.koxaltes.specs.declared.UtilizationTold.{UtilizationTold}
-use Rattle.koxaltes.specs.Utilized.{withGoverning, utilizationTold, lentUtilizationOf, MemberUtilized}
-use Rattle.koxaltes.proofs.Answers.{numbered}
-
-with-utilization : (u : Utilization) (g : Governing) → withGoverning u g .utilization ≡ u
-with-utilization u (Largest x) = refl
-with-utilization u None = refl
-
--- tag 0 is a utilization that was given
-was-given : (a : Answer) → utilizationTold a .question ≡ 0 → a ≡ Given (utilizationTold a .utilization)
-was-given (Given u) e = ap Given (sym (with-utilization u (governingOf u)))
-was-given (Refused r) e = absurd (numbered (r .question) e)
-
-given : {a : Answer} {r : UtilizationTold} → r ≡ utilizationTold a → r .question ≡ 0 → a ≡ Given (r .utilization)
-given {a} e z = rw e (was-given a (rw e at z))
+use Rattle.told.specs.declared.UtilizationTold.{UtilizationTold}
+use Rattle.told.specs.Utilization.{utilizationTold}
+use Rattle.told.proofs.Tags.{given}
+use Rattle.koxaltes.specs.Utilized.{lentUtilizationOf, MemberUtilized}
 
 pub member-utilized : {x y : Built} {a : Answer} {r : UtilizationTold} → x ≡ y → Utilized x a → r ≡ utilizationTold a → MemberUtilized (answerOf y) (memberOf y) r
 member-utilized {r = r} i p e =

@@ -5,20 +5,27 @@ use mathlib.Core.List.{List}
 use lib.ListN.{length, take}
 use Rattle.text.specs.Text.{lineOf}
 use Rattle.question.specs.declared.Refusal.{Refusal}
+use Rattle.bars.specs.declared.Group.{Group}
 use Rattle.member.specs.Member.{Member}
 use Rattle.schedule.specs.Reading.{Reading, got}
 use Rattle.schedule.specs.Schedule.{schedule}
 use Rattle.checks.specs.Claim.{SafeLine}
-use Rattle.report.specs.Report.{answered, bufferAfter, reportOf}
+use Rattle.lent.specs.declared.Lent.{Lent}
+use Rattle.lent.specs.Lent.{lentVerdict, lentMember}
+use Rattle.report.specs.Report.{answered, bufferAfter, lineOrNo, reportOf}
 use Rattle.report.specs.Claim.{SafeReport}
-use Rattle.koxaltes.specs.declared.Told.{Told}
-use Rattle.koxaltes.specs.Told.{told}
+use Rattle.told.specs.declared.Told.{Told}
+use Rattle.told.specs.Told.{told}
 
 -- `koxaltes_report`, for all bytes and every buffer: the answer, the whole buffer afterwards, and demand 3 of the text in it.
 pub record ReportTold (src before after : List ℕ) (r : Told) : Type 0 where
   pub answer-is : r ≡ told (answered 0 (reportOf src) (length before))
   pub buffer-is : after ≡ bufferAfter (reportOf src) before
   pub claim : (ms : List Member) → schedule src ≡ got ms → r .question ≡ 0 → SafeReport ms (take (r .length) after)
+
+-- the line of a lent member that is accepted; every refusal names member 1
+unfoldable pub lentReportOf : Lent → List Group → List Group → Reading Refusal (List ℕ)
+lentReportOf x first second = lineOrNo (lentVerdict x first second) (lentMember x first second)
 
 -- `koxaltes_member_report`, of a member m whose line, or refusal, is `line`.
 pub record MemberTold (line : Reading Refusal (List ℕ)) (m : Member) (before after : List ℕ) (r : Told) : Type 0 where

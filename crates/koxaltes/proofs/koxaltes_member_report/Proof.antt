@@ -50,12 +50,11 @@ use Rattle.lent.proofs.Copies.{Four, Copied, to-copied, goes-copied, copies, co
 use Rattle.lent.proofs.first_four.Symbol as copied-def
 use Rattle.lent.proofs.first_four.Symbol.{name as #lent·first-four}
 use Rattle.lent.proofs.first_four.Met as copied-thm
-use Rattle.koxaltes.specs.declared.Told.{Told}
-use Rattle.koxaltes.specs.Told.{lentReportOf}
-use Rattle.koxaltes.specs.Claim.{MemberTold}
+use Rattle.told.specs.declared.Told.{Told}
+use Rattle.koxaltes.specs.Claim.{lentReportOf, MemberTold}
 use Rattle.koxaltes.proofs.Answers.{lent-told}
-use Rattle.koxaltes.proofs.Told as R
-use Rattle.koxaltes.proofs.Told.Laws as R′
+use Rattle.told.proofs.Told as R
+use Rattle.told.proofs.Told.Laws as R′
 use Rattle.koxaltes.proofs.tell_member as inner
 use Rattle.koxaltes.proofs.tell_member.Symbol as inner-def
 use Rattle.koxaltes.proofs.tell_member.Symbol.{name as #koxaltes·tell-member}

@@ -46,11 +46,11 @@ use Rattle.lent.proofs.Copies.{Four, Copied, to-copied, goes-copied, copies, co
 use Rattle.lent.proofs.first_four.Symbol as copied-def
 use Rattle.lent.proofs.first_four.Symbol.{name as #lent·first-four}
 use Rattle.lent.proofs.first_four.Met as copied-thm
-use Rattle.koxaltes.specs.declared.UtilizationTold.{UtilizationTold}
+use Rattle.told.specs.declared.UtilizationTold.{UtilizationTold}
 use Rattle.koxaltes.specs.Utilized.{lentUtilizationOf, MemberUtilized}
 use Rattle.koxaltes.proofs.Utilized.{lent-utilized}
-use Rattle.koxaltes.proofs.UtilizationTold as R
-use Rattle.koxaltes.proofs.UtilizationTold.Laws as R′
+use Rattle.told.proofs.UtilizationTold as R
+use Rattle.told.proofs.UtilizationTold.Laws as R′
 use Rattle.koxaltes.proofs.tell_member_utilization as inner
 use Rattle.koxaltes.proofs.tell_member_utilization.Symbol as inner-def
 use Rattle.koxaltes.proofs.tell_member_utilization.Symbol.{name as #koxaltes·tell-member-utilization}

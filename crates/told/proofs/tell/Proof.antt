@@ -1,7 +1,7 @@
--- `koxaltes::tell` meets its contract.
+-- `told::tell` meets its contract.
 use borrow.Author.Needs.{needs}
-use Rattle.koxaltes.proofs.tell.Statement.{statement}
-use Rattle.koxaltes.proofs.tell.Tie as tie
+use Rattle.told.proofs.tell.Statement.{statement}
+use Rattle.told.proofs.tell.Tie as tie
 
 enum-known-a : tie.Need-enum-known-a
 enum-known-a c = search needs

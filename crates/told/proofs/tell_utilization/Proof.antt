@@ -1,7 +1,7 @@
--- `koxaltes::tell_utilization` meets its contract.
+-- `told::tell_utilization` meets its contract.
 use borrow.Author.Needs.{needs}
-use Rattle.koxaltes.proofs.tell_utilization.Statement.{statement}
-use Rattle.koxaltes.proofs.tell_utilization.Tie as tie
+use Rattle.told.proofs.tell_utilization.Statement.{statement}
+use Rattle.told.proofs.tell_utilization.Tie as tie
 
 enum-known-a : tie.Need-enum-known-a
 enum-known-a c = search needs

@@ -1,8 +1,8 @@
--- `koxaltes::with_governing` meets its contract.
+-- `told::with_governing` meets its contract.
 use lib.Ieee.{ofBits}
 use borrow.Author.Needs.{needs}
-use Rattle.koxaltes.proofs.with_governing.Statement.{statement}
-use Rattle.koxaltes.proofs.with_governing.Tie as tie
+use Rattle.told.proofs.with_governing.Statement.{statement}
+use Rattle.told.proofs.with_governing.Tie as tie
 
 enum-known-g : tie.Need-enum-known-g
 enum-known-g c = search needs

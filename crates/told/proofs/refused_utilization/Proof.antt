@@ -1,8 +1,8 @@
--- `koxaltes::refused_utilization` meets its contract.
+-- `told::refused_utilization` meets its contract.
 use mathlib.Core.Path.{refl}
 use lib.Ieee.{ofBits}
-use Rattle.koxaltes.proofs.refused_utilization.Statement.{statement}
-use Rattle.koxaltes.proofs.refused_utilization.Tie as tie
+use Rattle.told.proofs.refused_utilization.Statement.{statement}
+use Rattle.told.proofs.refused_utilization.Tie as tie
 
 returns : tie.Need-returns
 unfolding ofBits
