@@ -39,7 +39,11 @@ force-at-requires c κs = search needs
 
 returns : tie.Need-returns
 unfolding columnAt
-returns c = cc
+returns c =
+    let s = c .before .before in
+    let g = s .before .before in
+    let h = g .before .before .before .before .before in
+    rw (h .before .length-at .ensures, h .length-at2 .ensures, g .before .index .ensures, g .groups-at .ensures, s .length-at3 .ensures, c .before .length-at4 .ensures, c .force-at .ensures)
 
 pub column-of-spec : {M : Type 1} → statement M
 column-of-spec =

@@ -39,7 +39,9 @@ length-at-requires-3 c κs = search needs
 
 returns : tie.Need-returns
 unfolding meshAt
-returns c = cc
+returns c =
+    let f = c .before .before .before .before .before .before .before .before in
+    rw (f .length-at .ensures, c .before .length-at2 .ensures, c .length-at3 .ensures)
 
 pub mesh-of-spec : {M : Type 1} → statement M
 mesh-of-spec =
