@@ -6,7 +6,7 @@ use lib.ListN.{length, take}
 use Rattle.text.specs.Text.{lineOf}
 use Rattle.question.specs.declared.Refusal.{Refusal}
 use Rattle.member.specs.Member.{Member}
-use Rattle.schedule.specs.Reading.{Reading, got}
+use Rattle.reading.specs.Reading.{Reading, got}
 use Rattle.schedule.specs.Schedule.{schedule}
 use Rattle.checks.specs.Claim.{SafeLine}
 use Rattle.report.specs.Report.{answered, bufferAfter, reportOf}

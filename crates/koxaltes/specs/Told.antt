@@ -4,7 +4,7 @@ use mathlib.Core.List.{List}
 use Rattle.question.specs.declared.Refusal.{Refusal}
 use Rattle.question.specs.Question.{numberOf}
 use Rattle.bars.specs.declared.Group.{Group}
-use Rattle.schedule.specs.Reading.{Reading}
+use Rattle.reading.specs.Reading.{Reading}
 use Rattle.lent.specs.declared.Lent.{Lent}
 use Rattle.lent.specs.Lent.{lentVerdict, lentMember}
 use Rattle.report.specs.declared.Answer.{Answer}

@@ -23,12 +23,14 @@ use Rattle.built.specs.declared.Verdict.the-variants as verdicts
 use Rattle.built.specs.Slots.{memberOf}
 use Rattle.built.specs.Verdict.{markInRange, memberVerdict}
 use Rattle.built.proofs.Accepted.{accepted-member}
-use Rattle.schedule.specs.Reading.{Reading, got, no, Placed, placed, andThen, ask, passed, refusal, named, Got}
-use Rattle.schedule.specs.Schedule.{empty, checked, fields, whole, markRises, markAt, kindAt, member, members, schedule}
-use Rattle.schedule.specs.Taken.{taken, tookOf}
-use Rattle.schedule.proofs.Held.{on-checked, fields-held}
-use Rattle.schedule.proofs.Taken.{fields-taken, took-got}
-use Rattle.schedule.proofs.Members.{first-read, members-length, passes, number-passes}
+use Rattle.reading.specs.Reading.{Reading, got, no, Placed, placed, andThen, ask, passed, refusal, named, Got}
+use Rattle.reading.specs.Fields.{empty, checked, fields}
+use Rattle.schedule.specs.Schedule.{whole, markRises, markAt, kindAt, member, members, schedule}
+use Rattle.reading.specs.Taken.{taken, tookOf}
+use Rattle.reading.proofs.Checked.{on-checked, passes, number-passes}
+use Rattle.reading.proofs.Held.{fields-held}
+use Rattle.reading.proofs.Taken.{fields-taken, took-got}
+use Rattle.schedule.proofs.Members.{first-read, members-length}
 
 -- ---- Steps taken apart.
 

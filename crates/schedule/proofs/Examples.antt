@@ -14,8 +14,9 @@ use Rattle.field.specs.Domain.{holds, asked}
 use Rattle.field.specs.Fields.{fieldsOf, known}
 use Rattle.built.specs.Slots.{beamAt, columnAt, meshAt, memberAt}
 use Rattle.built.specs.Verdict.{beamVerdict, columnVerdict, meshVerdict, memberVerdict, markInRange}
-use Rattle.schedule.specs.Reading.{got, no, refusal}
-use Rattle.schedule.specs.Schedule.{field, fields, whole, markRises, markAt, kindAt, member, members, schedule}
+use Rattle.reading.specs.Reading.{got, no, refusal}
+use Rattle.reading.specs.Fields.{field, fields}
+use Rattle.schedule.specs.Schedule.{whole, markRises, markAt, kindAt, member, members, schedule}
 
 -- a file that is refused, with its question and member
 abbrev Refuses : List ℕ → Question → ℕ → Type 0

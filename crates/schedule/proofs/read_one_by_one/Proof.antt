@@ -1,7 +1,8 @@
 -- `schedule::read_one_by_one` meets its contract.
 use mathlib.Core.Path.{sym, _∙_}
-use Rattle.schedule.proofs.Held.{fields-held}
-use Rattle.schedule.proofs.Members.{run-got, run-no, whole-no, whole-passed}
+use Rattle.reading.proofs.Held.{fields-held}
+use Rattle.reading.proofs.Checked.{run-got, run-no}
+use Rattle.schedule.proofs.Members.{whole-no, whole-passed}
 use borrow.Author.Needs.{needs}
 use Rattle.schedule.proofs.read_one_by_one.Statement.{statement}
 use Rattle.schedule.proofs.read_one_by_one.Tie as tie

@@ -20,10 +20,10 @@ use Rattle.field.specs.declared.Domain.the-variants.{Range, ZeroOr, Bar, Grade,
 use Rattle.field.specs.Domain.{asked, holds, fieldHolds}
 use Rattle.field.specs.Fields.{groups, beamFields, columnFields, meshFields, fieldsOf, fieldsHold, known}
 use Rattle.field.proofs.Tables.{fields-fit}
-use Rattle.schedule.specs.Reading.{Reading, got, no, Placed, placed, andThen, ask, ofNumber}
-use Rattle.schedule.specs.Schedule.{empty, checked, field, fields}
-use Rattle.schedule.specs.Taken.{stored, run, taken, tookOf}
-use Rattle.schedule.proofs.Held.{on-field, countBelow, ordered, asked-same, in-order, fields-held}
+use Rattle.reading.specs.Reading.{Reading, got, no, Placed, placed, andThen, ask, ofNumber}
+use Rattle.reading.specs.Fields.{empty, checked, field, fields}
+use Rattle.reading.specs.Taken.{stored, run, taken, tookOf}
+use Rattle.reading.proofs.Held.{on-field, countBelow, ordered, asked-same, in-order, fields-held}
 
 -- ---- Cases.
 

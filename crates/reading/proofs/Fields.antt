@@ -12,8 +12,8 @@ use Rattle.field.specs.declared.Domain.{Domain}
 use Rattle.field.specs.declared.Domain.the-variants.{Grade}
 use Rattle.field.specs.Domain.{asked, holds}
 use Rattle.field.proofs.Tables.{drop-one}
-use Rattle.schedule.specs.Reading.{got, no, placed, andThen, ofNumber}
-use Rattle.schedule.specs.Schedule.{checked, field, fields}
+use Rattle.reading.specs.Reading.{got, no, placed, andThen, ofNumber}
+use Rattle.reading.specs.Fields.{checked, field, fields}
 
 module _ (fs : List Domain) (s : List ℕ) (p i : ℕ) (v : List ℕ) where
   pub fields-read : length fs ≤ i → fields (drop i fs) s p i v ≡ got (placed v p)

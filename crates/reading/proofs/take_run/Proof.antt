@@ -1,11 +1,11 @@
--- `schedule::take_run` meets its contract.
+-- `reading::take_run` meets its contract.
 use Prim.Native.Nat.{_-_, _≤_}
 use mathlib.Core.Path.{_≡_, refl, sym, _∙_}
 use borrow.Author.Needs.{needs}
-use Rattle.schedule.specs.Taken.{run}
-use Rattle.schedule.proofs.Taken.{run-ended, run-refused, run-stored}
-use Rattle.schedule.proofs.take_run.Statement.{statement}
-use Rattle.schedule.proofs.take_run.Tie as tie
+use Rattle.reading.specs.Taken.{run}
+use Rattle.reading.proofs.Taken.{run-ended, run-refused, run-stored}
+use Rattle.reading.proofs.take_run.Statement.{statement}
+use Rattle.reading.proofs.take_run.Tie as tie
 
 abbrev Inv-loop : tie.InvT-loop
 Inv-loop src at v₀ from end p₀ i₀ v p i = (i ≤ end) × (run (end - from) src at from v₀ ≡ run (end - i) src p i v)

@@ -1,9 +1,9 @@
--- `schedule::take_list` meets its contract.
+-- `reading::take_list` meets its contract.
 use mathlib.Core.Path.{_∙_}
-use Rattle.schedule.proofs.Taken.{list-taken}
+use Rattle.reading.proofs.Taken.{list-taken}
 use borrow.Author.Needs.{needs}
-use Rattle.schedule.proofs.take_list.Statement.{statement}
-use Rattle.schedule.proofs.take_list.Tie as tie
+use Rattle.reading.proofs.take_list.Statement.{statement}
+use Rattle.reading.proofs.take_list.Tie as tie
 
 mul-at-most-four : tie.Need-mul-at-most-four
 mul-at-most-four c = search needs

@@ -1,11 +1,11 @@
--- `schedule::read_field` meets its contract.
+-- `reading::read_field` meets its contract.
 use mathlib.Core.Path.{sym, _∙_}
 use Rattle.question.specs.declared.Question.the-variants.{Field}
 use Rattle.field.specs.Domain.{holds}
-use Rattle.schedule.proofs.Members.{number-refused, number-passes, number-fails}
+use Rattle.reading.proofs.Checked.{number-refused, number-passes, number-fails}
 use borrow.Author.Needs.{needs}
-use Rattle.schedule.proofs.read_field.Statement.{statement}
-use Rattle.schedule.proofs.read_field.Tie as tie
+use Rattle.reading.proofs.read_field.Statement.{statement}
+use Rattle.reading.proofs.read_field.Tie as tie
 
 number-at-requires : tie.Need-number-at-requires
 number-at-requires c κs = search needs

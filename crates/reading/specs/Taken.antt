@@ -9,7 +9,7 @@ use Rattle.number.specs.declared.Number.the-variants.{Value, Refused}
 use Rattle.number.specs.Number.{numberAt}
 use Rattle.field.specs.declared.Domain.{Domain}
 use Rattle.field.specs.Domain.{asked}
-use Rattle.schedule.specs.Reading.{Reading, got, no, Placed, placed, andThen, ofNumber}
+use Rattle.reading.specs.Reading.{Reading, got, no, Placed, placed, andThen, ofNumber}
 
 -- the number at p, into slot i of v
 unfoldable pub stored : List ℕ → ℕ → ℕ → List ℕ → Reading Question (Placed (List ℕ))

@@ -8,32 +8,22 @@ use lib.Dec.{T, ltb}
 use lib.ListN.{length, getD, set, length-set}
 use lib.Seq.{getD-set-same, getD-set-other}
 use borrow.Author.Tests.{ltb-true}
-use Rattle.quantity.proofs.Choice.{if-case}
+use Rattle.quantity.proofs.Choice.{if-case, both-true}
 use Rattle.standard.proofs.Table.{every-at}
 use Rattle.question.specs.declared.Question.{Question}
 use Rattle.question.specs.declared.Question.the-variants.{Field}
-use Rattle.number.specs.declared.Number.{Number}
-use Rattle.number.specs.declared.Number.the-variants.{Value, Refused}
+use Rattle.number.specs.declared.Number.the-variants.{Value}
 use Rattle.number.specs.Number.{numberAt}
-use Rattle.quantity.proofs.Choice.{both-true}
 use Rattle.field.specs.declared.Domain.{Domain}
 use Rattle.field.specs.declared.Domain.the-variants.{Range, ZeroOr, Bar, Grade, Steel, LinkSteel, GroupDiameter, GroupBars}
 use Rattle.field.specs.Domain.{asked, holds, fieldHolds}
 use Rattle.field.specs.Fields.{kinds, fieldsOf, fieldsHold, known}
 use Rattle.field.proofs.Tables.{known-below, fields-fit}
-use Rattle.schedule.specs.Reading.{Reading, got, no, Placed, placed, andThen, ask, ofNumber}
-use Rattle.schedule.specs.Schedule.{empty, checked, field, fields}
+use Rattle.reading.specs.Reading.{Reading, got, no, Placed, placed, andThen}
+use Rattle.reading.specs.Fields.{empty, field, fields}
+use Rattle.reading.proofs.Checked.{on-checked}
 
 -- ---- Cases.
-
--- a number passes its question, or is refused
-pub on-checked : (P : Reading Question (Placed ℕ) → Type 0) (q : Question) (test : ℕ → Bool) (s : List ℕ) (p : ℕ)
-    → ((x next : ℕ) → numberAt s p ≡ Value x next → test x ≡ true → P (got (placed x next))) → ((r : Question) → P (no r)) → P (checked q test s p)
-on-checked P q test s p passes refused = cases (numberAt s p) refl
-  where
-    cases : (n : Number) → numberAt s p ≡ n → P (andThen (ofNumber n) (λ x. ask q (test (x .value)) (got x)))
-    cases (Value x next) e = if-case P (test x) _ _ (passes x next e) (λ _. refused q)
-    cases (Refused r) e = refused r
 
 -- a field is not there, is stored, or refused
 pub on-field : (P : Reading Question (Placed (List ℕ)) → Type 0) (d : Domain) (s : List ℕ) (p i : ℕ) (v : List ℕ)

@@ -1,11 +1,11 @@
--- `schedule::take_fields` meets its contract.
+-- `reading::take_fields` meets its contract.
 use mathlib.Core.Path.{_≡_, sym, _∙_}
 use Rattle.field.specs.Fields.{fieldsOf}
 use Rattle.field.proofs.Tables.{known-mesh}
-use Rattle.schedule.proofs.Taken.{mesh-rows}
+use Rattle.reading.proofs.Taken.{mesh-rows}
 use borrow.Author.Needs.{needs}
-use Rattle.schedule.proofs.take_fields.Statement.{statement}
-use Rattle.schedule.proofs.take_fields.Tie as tie
+use Rattle.reading.proofs.take_fields.Statement.{statement}
+use Rattle.reading.proofs.take_fields.Tie as tie
 
 take-beam-requires : tie.Need-take-beam-requires
 take-beam-requires c κs = search needs

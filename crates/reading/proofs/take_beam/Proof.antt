@@ -1,9 +1,9 @@
--- `schedule::take_beam` meets its contract.
+-- `reading::take_beam` meets its contract.
 use mathlib.Core.Path.{sym, _∙_}
-use Rattle.schedule.proofs.Taken.{beam-rows, then-refused, then-on}
+use Rattle.reading.proofs.Taken.{beam-rows, then-refused, then-on}
 use borrow.Author.Needs.{needs}
-use Rattle.schedule.proofs.take_beam.Statement.{statement}
-use Rattle.schedule.proofs.take_beam.Tie as tie
+use Rattle.reading.proofs.take_beam.Statement.{statement}
+use Rattle.reading.proofs.take_beam.Tie as tie
 
 take-run-requires : tie.Need-take-run-requires
 take-run-requires c κs = search needs

@@ -1,4 +1,4 @@
--- `schedule::read_fields` meets its contract.
+-- `reading::read_fields` meets its contract.
 use Prim.Native.Nat.{_-_, _≤_, _<_}
 use mathlib.Core.Path.{_≡_, refl, sym, _∙_}
 use lib.ListN.{length, drop}
@@ -6,10 +6,10 @@ use native.Mathlib.Omega.{arith}
 use borrow.Author.Needs.{needs}
 use Rattle.field.specs.Fields.{fieldsOf}
 use Rattle.field.proofs.Tables.{fields-fit}
-use Rattle.schedule.specs.Schedule.{empty, fields}
-use Rattle.schedule.proofs.Fields.{fields-read, field-absent, field-refused, field-stored}
-use Rattle.schedule.proofs.read_fields.Statement.{statement}
-use Rattle.schedule.proofs.read_fields.Tie as tie
+use Rattle.reading.specs.Fields.{empty, fields}
+use Rattle.reading.proofs.Fields.{fields-read, field-absent, field-refused, field-stored}
+use Rattle.reading.proofs.read_fields.Statement.{statement}
+use Rattle.reading.proofs.read_fields.Tie as tie
 
 abbrev Inv-loop : tie.InvT-loop
 Inv-loop src at kind n v₀ p₀ i₀ v p i =
