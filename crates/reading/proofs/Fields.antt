@@ -8,9 +8,9 @@ use Rattle.question.specs.declared.Question.{Question}
 use Rattle.question.specs.declared.Question.the-variants.{Field}
 use Rattle.number.specs.declared.Number.{Number}
 use Rattle.number.specs.declared.Number.the-variants.{Value, Refused}
-use Rattle.field.specs.declared.Domain.{Domain}
-use Rattle.field.specs.declared.Domain.the-variants.{Grade}
-use Rattle.field.specs.Domain.{asked, holds}
+use Rattle.domain.specs.declared.Domain.{Domain}
+use Rattle.domain.specs.declared.Domain.the-variants.{Grade}
+use Rattle.domain.specs.Domain.{asked, holds}
 use Rattle.field.proofs.Tables.{drop-one}
 use Rattle.reading.specs.Reading.{got, no, placed, andThen, ofNumber}
 use Rattle.reading.specs.Fields.{checked, field, fields}

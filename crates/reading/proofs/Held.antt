@@ -14,9 +14,9 @@ use Rattle.question.specs.declared.Question.{Question}
 use Rattle.question.specs.declared.Question.the-variants.{Field}
 use Rattle.number.specs.declared.Number.the-variants.{Value}
 use Rattle.number.specs.Number.{numberAt}
-use Rattle.field.specs.declared.Domain.{Domain}
-use Rattle.field.specs.declared.Domain.the-variants.{Range, ZeroOr, Bar, Grade, Steel, LinkSteel, GroupDiameter, GroupBars}
-use Rattle.field.specs.Domain.{asked, holds, fieldHolds}
+use Rattle.domain.specs.declared.Domain.{Domain}
+use Rattle.domain.specs.declared.Domain.the-variants.{Range, ZeroOr, Bar, Grade, Steel, LinkSteel, GroupDiameter, GroupBars}
+use Rattle.domain.specs.Domain.{asked, holds, fieldHolds}
 use Rattle.field.specs.Fields.{kinds, fieldsOf, fieldsHold, known}
 use Rattle.field.proofs.Tables.{known-below, fields-fit}
 use Rattle.reading.specs.Reading.{Reading, got, no, Placed, placed, andThen}

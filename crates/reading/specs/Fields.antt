@@ -7,8 +7,8 @@ use Rattle.quantity.specs.Choice.{if_then_else_}
 use Rattle.question.specs.declared.Question.{Question}
 use Rattle.question.specs.declared.Question.the-variants.{Field}
 use Rattle.number.specs.Number.{numberAt}
-use Rattle.field.specs.declared.Domain.{Domain}
-use Rattle.field.specs.Domain.{holds, asked}
+use Rattle.domain.specs.declared.Domain.{Domain}
+use Rattle.domain.specs.Domain.{holds, asked}
 use Rattle.reading.specs.Reading.{Reading, got, Placed, placed, andThen, ask, ofNumber}
 
 -- the number at p: 2 and 3, then question q

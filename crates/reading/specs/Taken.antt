@@ -7,8 +7,8 @@ use Rattle.question.specs.declared.Question.{Question}
 use Rattle.number.specs.declared.Number.{Number}
 use Rattle.number.specs.declared.Number.the-variants.{Value, Refused}
 use Rattle.number.specs.Number.{numberAt}
-use Rattle.field.specs.declared.Domain.{Domain}
-use Rattle.field.specs.Domain.{asked}
+use Rattle.domain.specs.declared.Domain.{Domain}
+use Rattle.domain.specs.Domain.{asked}
 use Rattle.reading.specs.Reading.{Reading, got, no, Placed, placed, andThen, ofNumber}
 
 -- the number at p, into slot i of v

@@ -16,7 +16,7 @@ use Rattle.member.specs.Member.{Member}
 use Rattle.member.specs.Accepted.{AcceptedMember, AcceptedMembers}
 use Rattle.quantity.proofs.Choice.{both-true}
 use Rattle.field.specs.Fields.{fieldsOf, fieldsHold, known}
-use Rattle.field.proofs.Tables.{in-between}
+use Rattle.domain.proofs.Between.{in-between}
 use Rattle.built.specs.declared.Built.{Built}
 use Rattle.built.specs.declared.Verdict.{Verdict}
 use Rattle.built.specs.declared.Verdict.the-variants as verdicts

@@ -10,7 +10,7 @@ use Rattle.member.specs.Member.{Member, beam, column, mesh}
 use Rattle.bars.specs.Sums.{barCount, area, groupArea}
 use Rattle.relation.specs.Relation.{flangeFits, compressionFits, depthFits, beamRelation, columnRelation, meshRelation}
 use Rattle.reinforcement.specs.Reinforcement.{beamBars, beamRatio, columnBars}
-use Rattle.field.specs.Domain.{holds, asked}
+use Rattle.domain.specs.Domain.{holds, asked}
 use Rattle.field.specs.Fields.{fieldsOf, known}
 use Rattle.built.specs.Slots.{beamAt, columnAt, meshAt, memberAt}
 use Rattle.built.specs.Verdict.{beamVerdict, columnVerdict, meshVerdict, memberVerdict, markInRange}

@@ -1,7 +1,7 @@
 -- `reading::read_field` meets its contract.
 use mathlib.Core.Path.{sym, _∙_}
 use Rattle.question.specs.declared.Question.the-variants.{Field}
-use Rattle.field.specs.Domain.{holds}
+use Rattle.domain.specs.Domain.{holds}
 use Rattle.reading.proofs.Checked.{number-refused, number-passes, number-fails}
 use borrow.Author.Needs.{needs}
 use Rattle.reading.proofs.read_field.Statement.{statement}

@@ -1,11 +1,11 @@
--- `field::has_group` meets its contract.
+-- `domain::has_group` meets its contract.
 use Prim.Native.Nat.{zero-le}
 use mathlib.Core.Path.{sym}
 use lib.ListN.{List·getD-eq-default}
 use borrow.Author.Tests.{le-ltb}
 use borrow.Author.Needs.{needs}
-use Rattle.field.proofs.has_group.Statement.{statement}
-use Rattle.field.proofs.has_group.Tie as tie
+use Rattle.domain.proofs.has_group.Statement.{statement}
+use Rattle.domain.proofs.has_group.Tie as tie
 
 mul-result : tie.Need-mul-result
 mul-result c = search needs

@@ -9,17 +9,8 @@ use Rattle.standard.specs.Table.{listed}
 use Rattle.standard.specs.Bars.{areaOf}
 use Rattle.standard.specs.Concrete.{concretes}
 use Rattle.standard.specs.Steel.{steels, linkSteels}
-use Rattle.field.specs.declared.Domain.{Domain}
-use Rattle.field.specs.declared.Domain.the-variants.{
-  Range,
-  ZeroOr,
-  Bar,
-  Grade,
-  Steel,
-  LinkSteel,
-  GroupDiameter,
-  GroupBars,
-}
+use Rattle.domain.specs.declared.Domain.{Domain}
+use Rattle.domain.specs.declared.Domain.the-variants.{Range, ZeroOr, Bar, Grade, Steel, LinkSteel, GroupDiameter, GroupBars}
 
 abbrev pub between : ℕ → ℕ → ℕ → Bool
 between lo hi x = leb lo x && leb x hi

@@ -1,7 +1,7 @@
--- `field::is_bar` meets its contract.
+-- `domain::is_bar` meets its contract.
 use borrow.Author.Needs.{needs}
-use Rattle.field.proofs.is_bar.Statement.{statement}
-use Rattle.field.proofs.is_bar.Tie as tie
+use Rattle.domain.proofs.is_bar.Statement.{statement}
+use Rattle.domain.proofs.is_bar.Tie as tie
 
 is-between-requires : tie.Need-is-between-requires
 is-between-requires c κs = search needs

@@ -1,9 +1,9 @@
--- `field::slot_holds` meets its contract.
+-- `domain::slot_holds` meets its contract.
 use mathlib.Core.Path.{sym, _∙_}
-use Rattle.field.specs.Domain.{fieldHolds}
+use Rattle.domain.specs.Domain.{fieldHolds}
 use borrow.Author.Needs.{needs}
-use Rattle.field.proofs.slot_holds.Statement.{statement}
-use Rattle.field.proofs.slot_holds.Tie as tie
+use Rattle.domain.proofs.slot_holds.Statement.{statement}
+use Rattle.domain.proofs.slot_holds.Tie as tie
 
 domain-asked-requires : tie.Need-domain-asked-requires
 domain-asked-requires c κs = search needs

@@ -1,4 +1,4 @@
--- `field::domain_asked` meets its contract.
+-- `domain::domain_asked` meets its contract.
 use Prim.Native.Nat.{ℕ, _<_}
 use mathlib.Core.Path.{_≡_, refl}
 use mathlib.Core.Bool.{true}
@@ -8,12 +8,12 @@ use native.Mathlib.Omega.{arith}
 use types.Run.{OneOf}
 use denote.Enum.Declared.{tagOf}
 use borrow.Author.Needs.{needs}
-use Rattle.field.specs.declared.Domain.{Domain}
-use Rattle.field.specs.declared.Domain.the-variants.{Range, ZeroOr, Bar, Grade, Steel, LinkSteel, GroupDiameter, GroupBars}
-use Rattle.field.specs.Domain.{asked}
-use Rattle.field.proofs.Domain.{the-type}
-use Rattle.field.proofs.domain_asked.Statement.{statement}
-use Rattle.field.proofs.domain_asked.Tie as tie
+use Rattle.domain.specs.declared.Domain.{Domain}
+use Rattle.domain.specs.declared.Domain.the-variants.{Range, ZeroOr, Bar, Grade, Steel, LinkSteel, GroupDiameter, GroupBars}
+use Rattle.domain.specs.Domain.{asked}
+use Rattle.domain.proofs.Domain.{the-type}
+use Rattle.domain.proofs.domain_asked.Statement.{statement}
+use Rattle.domain.proofs.domain_asked.Tie as tie
 
 below-six : (k : ℕ) → OneOf (0 ∷ 1 ∷ 2 ∷ 3 ∷ 4 ∷ 5 ∷ []) k → k < 6
 below-six k (inl e) = omega arith

@@ -1,8 +1,8 @@
--- `field::domain_holds` meets its contract.
-use Rattle.field.specs.Domain.{holds}
+-- `domain::domain_holds` meets its contract.
+use Rattle.domain.specs.Domain.{holds}
 use borrow.Author.Needs.{needs}
-use Rattle.field.proofs.domain_holds.Statement.{statement}
-use Rattle.field.proofs.domain_holds.Tie as tie
+use Rattle.domain.proofs.domain_holds.Statement.{statement}
+use Rattle.domain.proofs.domain_holds.Tie as tie
 
 enum-known-d : tie.Need-enum-known-d
 enum-known-d c = search needs
