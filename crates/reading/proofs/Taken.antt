@@ -22,38 +22,40 @@ use Rattle.field.specs.Fields.{groups, beamFields, columnFields, meshFields, fi
 use Rattle.field.proofs.Tables.{fields-fit}
 use Rattle.reading.specs.Reading.{Reading, got, no, Placed, placed, andThen, ask, ofNumber}
 use Rattle.reading.specs.Fields.{empty, checked, field, fields}
-use Rattle.reading.specs.Taken.{stored, run, taken, tookOf}
+use Rattle.reading.specs.Taken.{Stopped, stopped, storedBy, stored, run, taken, tookOf}
 use Rattle.reading.proofs.Held.{on-field, countBelow, ordered, asked-same, in-order, fields-held}
 
 -- ---- Cases.
 
 -- a number is stored, or refused
-on-stored : (P : Reading Question (Placed (List ℕ)) → Type 0) (s : List ℕ) (p i : ℕ) (v : List ℕ)
-    → ((x next : ℕ) → numberAt s p ≡ Value x next → P (got (placed (set v i x) next))) → ((q : Question) → P (no q)) → P (stored s p i v)
+on-stored : (P : Reading Stopped (Placed (List ℕ)) → Type 0) (s : List ℕ) (p i : ℕ) (v : List ℕ)
+    → ((x next : ℕ) → numberAt s p ≡ Value x next → P (got (placed (set v i x) next))) → ((q : Question) → P (no (stopped q v))) → P (stored s p i v)
 unfolding stored
 on-stored P s p i v kept refused = cases (numberAt s p) refl
   where
-    cases : (n : Number) → numberAt s p ≡ n → P (andThen (ofNumber n) (λ x. got (placed (set v i (x .value)) (x .next))))
+    cases : (n : Number) → numberAt s p ≡ n → P (storedBy n i v)
     cases (Value x next) e = kept x next e
     cases (Refused q) e = refused q
 
 -- a field is not there, is stored, or its number is refused
-on-taken : (P : Reading Question (Placed (List ℕ)) → Type 0) (d : Domain) (s : List ℕ) (p i : ℕ) (v : List ℕ)
+on-taken : (P : Reading Stopped (Placed (List ℕ)) → Type 0) (d : Domain) (s : List ℕ) (p i : ℕ) (v : List ℕ)
     → (asked d v ≡ false → P (got (placed v p)))
     → ((x next : ℕ) → asked d v ≡ true → numberAt s p ≡ Value x next → P (got (placed (set v i x) next)))
-    → ((q : Question) → P (no q)) → P (if asked d v then stored s p i v else got (placed v p))
+    → ((q : Question) → P (no (stopped q v))) → P (if asked d v then stored s p i v else got (placed v p))
 on-taken P d s p i v absent kept refused =
     if-case P (asked d v) _ _ (λ a. on-stored P s p i v (λ x next n. kept x next a n) refused) absent
 
 -- ---- Against the fields read one by one.
+
+pub got-is : {N A : Type 0} {a b : A} → _≡_ {A = Reading N A} (got a) (got b) → a ≡ b
+got-is e = cc
 
 module _ (s w : List ℕ) (q : ℕ) where
   -- slots below the first one are kept
   kept : (fs : List Domain) (p i : ℕ) (v : List ℕ) → taken fs s p i v ≡ got (placed w q) → (j : ℕ) → j < i → getD w j 0 ≡ getD v j 0
   unfolding taken
   kept [] p i v e =
-      let f : placed v p ≡ placed w q = cc in
-      λ j h. ap (λ (x : List ℕ). getD x j 0) (sym (ap (λ (x : Placed (List ℕ)). x .value) f))
+      λ j h. ap (λ (x : List ℕ). getD x j 0) (sym (ap (λ (x : Placed (List ℕ)). x .value) (got-is e)))
   kept (d ∷ ds) p i v u =
       on-taken (λ r. andThen r (λ x. taken ds s (x .next) (i + 1) (x .value)) ≡ got (placed w q) → (j : ℕ) → j < i → getD w j 0 ≡ getD v j 0) d s p i v
       (λ a e j h. kept ds p (i + 1) v e j (omega arith))
@@ -65,7 +67,7 @@ module _ (s w : List ℕ) (q : ℕ) where
   taken-read : (fs : List Domain) (p i : ℕ) (v : List ℕ) → ordered i fs ≡ true → i + length fs ≤ length v → taken fs s p i v ≡ got (placed w q)
       → fieldsHold fs i w ≡ true → fields fs s p i v ≡ got (placed w q)
   unfolding taken fields ordered fieldHolds field
-  taken-read [] p i v o l e h = e
+  taken-read [] p i v o l e h = ap got (got-is e)
   taken-read (d ∷ ds) p i v o l u h =
       on-taken (λ r. andThen r (λ x. taken ds s (x .next) (i + 1) (x .value)) ≡ got (placed w q) → fields (d ∷ ds) s p i v ≡ got (placed w q)) d s p i v
       (λ a e. rw a (taken-read ds p (i + 1) v (b .1) (omega arith) e (t .1)))
@@ -90,7 +92,7 @@ module _ (s w : List ℕ) (q : ℕ) where
   -- fields that are read are taken
   read-taken : (fs : List Domain) (p i : ℕ) (v : List ℕ) → fields fs s p i v ≡ got (placed w q) → taken fs s p i v ≡ got (placed w q)
   unfolding taken fields stored
-  read-taken [] p i v e = e
+  read-taken [] p i v e = ap got (got-is e)
   read-taken (d ∷ ds) p i v u =
       on-field (λ r. andThen r (λ x. fields ds s (x .next) (i + 1) (x .value)) ≡ got (placed w q) → taken (d ∷ ds) s p i v ≡ got (placed w q)) d s p i v
       (λ a e. rw a (read-taken ds p (i + 1) v e))
@@ -117,7 +119,7 @@ module _ (s : List ℕ) (p end i : ℕ) (v : List ℕ) where
     one-more : end - i ≡ suc (end - (i + 1))
     one-more = omega arith
 
-    pub run-refused : (q : Question) → numberAt s p ≡ Refused q → run (end - i) s p i v ≡ no q
+    pub run-refused : (q : Question) → numberAt s p ≡ Refused q → run (end - i) s p i v ≡ no (stopped q v)
     unfolding run stored
     run-refused q e = rw (one-more, e)
 
@@ -126,14 +128,14 @@ module _ (s : List ℕ) (p end i : ℕ) (v : List ℕ) where
     run-stored x next e = rw (one-more, e)
 
 -- a row that was refused or taken, and what follows it
-module _ (n : Number) (v : List ℕ) (o : Reading Question (Placed (List ℕ))) (took : tookOf n v ≡ o) (f : Placed (List ℕ) → Reading Question (Placed (List ℕ))) where
-  pub then-refused : (q : Question) → n ≡ Refused q → andThen o f ≡ no q
+module _ (n : Number) (v : List ℕ) (o : Reading Stopped (Placed (List ℕ))) (took : tookOf n v ≡ o) (f : Placed (List ℕ) → Reading Stopped (Placed (List ℕ))) where
+  pub then-refused : (q : Question) → n ≡ Refused q → andThen o f ≡ no (stopped q v)
   then-refused q e = rw (← took, e)
 
   pub then-on : (x next : ℕ) → n ≡ Value x next → andThen o f ≡ f (placed v next)
   then-on x next e = rw (← took, e)
 
-pub took-got : (n : Number) (v : List ℕ) (o : Reading Question (Placed (List ℕ))) → tookOf n v ≡ o → (x next : ℕ) → n ≡ Value x next → o ≡ got (placed v next)
+pub took-got : (n : Number) (v : List ℕ) (o : Reading Stopped (Placed (List ℕ))) → tookOf n v ≡ o → (x next : ℕ) → n ≡ Value x next → o ≡ got (placed v next)
 took-got n v o took x next e = rw (← took, e)
 
 -- ---- Rows.
@@ -146,7 +148,7 @@ taken-append [] ys s p i v = let z : i + 0 ≡ i = omega arith in rw z
 taken-append (x ∷ xs) ys s p i v = after (taken-append xs ys s) (if asked x v then stored s p i v else got (placed v p))
   where
     after : ((p i : ℕ) (v : List ℕ) → taken (xs ++ ys) s p i v ≡ andThen (taken xs s p i v) (λ r. taken ys s (r .next) (i + length xs) (r .value)))
-        → (o : Reading Question (Placed (List ℕ)))
+        → (o : Reading Stopped (Placed (List ℕ)))
         → andThen o (λ r. taken (xs ++ ys) s (r .next) (i + 1) (r .value))
         ≡ andThen (andThen o (λ r. taken xs s (r .next) (i + 1) (r .value))) (λ r. taken ys s (r .next) (i + suc (length xs)) (r .value))
     after more (got r) = let z : i + suc (length xs) ≡ i + 1 + length xs = omega arith in rw z (more (r .next) (i + 1) (r .value))
@@ -268,10 +270,10 @@ and-same (got a) f g e = e a
 and-same (no q) f g e = refl
 
 module _ (s : List ℕ) where
-  abbrev rowFrom : ℕ → ℕ → Placed (List ℕ) → Reading Question (Placed (List ℕ))
+  abbrev rowFrom : ℕ → ℕ → Placed (List ℕ) → Reading Stopped (Placed (List ℕ))
   rowFrom m i r = run m s (r .next) i (r .value)
 
-  abbrev listFrom : ℕ → Placed (List ℕ) → Reading Question (Placed (List ℕ))
+  abbrev listFrom : ℕ → Placed (List ℕ) → Reading Stopped (Placed (List ℕ))
   listFrom k r = taken (groups k) s (r .next) (k + 1) (r .value)
 
   -- fields that are there, then others

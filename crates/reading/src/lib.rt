@@ -157,7 +157,7 @@ fn take_column(src: &[u8], at: usize, v: &mut [u32; 40]) -> Number
     }
 }
 
-// The fields of a kind from `at` on, into v: the place after them. After a refusal v holds what was taken so far; nobody reads it.
+// The fields of a kind from `at` on, into v: the place after them, or the refusal of a number.
 pub fn take_fields(src: &[u8], at: usize, kind: u32, v: &mut [u32; 40]) -> Number
     requires { ⌜ known kind ≡ true ⌝ }
     ensures { λ r. ⌜ tookOf r (now (v .exit)) ≡ taken (fieldsOf kind) (now (src .entry)) at 0 (now (v .entry)) ⌝ }

@@ -29,7 +29,7 @@ use Rattle.schedule.specs.Schedule.{whole, markRises, markAt, kindAt, me
 use Rattle.reading.specs.Taken.{taken, tookOf}
 use Rattle.reading.proofs.Checked.{on-checked, passes, number-passes}
 use Rattle.reading.proofs.Held.{fields-held}
-use Rattle.reading.proofs.Taken.{fields-taken, took-got}
+use Rattle.reading.proofs.Taken.{got-is, fields-taken, took-got}
 use Rattle.schedule.proofs.Members.{first-read, members-length}
 
 -- ---- Steps taken apart.
@@ -155,9 +155,6 @@ module _ (s : List ℕ) (p : ℕ) (ok : Got (member s p 0)) where
 
   value-is : (n : Number) (x next y after : ℕ) → n ≡ Value x next → n ≡ Value y after → (x ≡ y) × (next ≡ after)
   value-is n x next y after e f = (cc, cc)
-
-  got-is : {N A : Type 0} {a b : A} → _≡_ {A = Reading N A} (got a) (got b) → a ≡ b
-  got-is e = cc
 
   abbrev made : ℕ → ℕ → List ℕ → Built
   made m c w = record { mark = m; kind = c; fields = record { v = w } }
