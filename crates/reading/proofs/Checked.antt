@@ -1,6 +1,6 @@
 -- A number and the question put to it, and what a run of fields says.
 use Prim.Native.Nat.{ℕ}
-use mathlib.Core.Path.{_≡_, refl, ap}
+use mathlib.Core.Path.{_≡_, refl, sym, ap, _∙_}
 use mathlib.Core.Bool.{Bool, true, false}
 use mathlib.Core.List.{List}
 use native.Mathlib.Omega.{arith}
@@ -43,8 +43,10 @@ passes q test s p x next =
     rw (← ap (λ (r : Placed ℕ). r .value) same) t)
     (λ r e. absurd (let z : _≡_ {A = ℕ} 0 1 = cc in omega arith))
 
-pub run-got : (r : Run) → r .verdict ≡ verdicts.Accepted → runOf r ≡ got (placed (r .slots .v) (r .next))
-run-got r e = rw e
+pub run-got : (r : Run) (o : Reading Question (Placed (List ℕ))) → r ≡ runOf o → r .verdict ≡ verdicts.Accepted → o ≡ got (placed (r .slots .v) (r .next))
+run-got r (got f) e a = rw e
+run-got r (no q) e a = absurd (let z : _≡_ {A = ℕ} 0 1 = cc in omega arith)
 
-pub run-no : (r : Run) (q : Question) → r .verdict ≡ verdicts.Refused q → runOf r ≡ no q
-run-no r q e = rw e
+pub run-no : (r : Run) (o : Reading Question (Placed (List ℕ))) (q : Question) → r ≡ runOf o → r .verdict ≡ verdicts.Refused q → o ≡ no q
+run-no r (got f) q e a = absurd (let z : _≡_ {A = ℕ} 0 1 = cc in omega arith)
+run-no r (no p) q e a = let same : verdicts.Refused p ≡ verdicts.Refused q = sym (ap (λ (x : Run). x .verdict) e) ∙ a in cc

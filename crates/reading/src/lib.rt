@@ -33,7 +33,7 @@ fn no_slots() -> Slots
 }
 
 fn refused_run(q: Question) -> Run
-    ensures { λ r. ⌜ runOf r ≡ no q ⌝ }
+    ensures { λ r. ⌜ r ≡ runOf (no q) ⌝ }
 {
     Run {
         verdict: Verdict::Refused(q),
@@ -61,7 +61,7 @@ fn read_field(src: &[u8], at: usize, d: Domain) -> Number
 // The fields of a kind, from `at` on.
 pub fn read_fields(src: &[u8], at: usize, kind: u32) -> Run
     requires { ⌜ known kind ≡ true ⌝ }
-    ensures { λ r. ⌜ runOf r ≡ fields (fieldsOf kind) (now (src .entry)) at 0 empty ⌝ }
+    ensures { λ r. ⌜ r ≡ runOf (fields (fieldsOf kind) (now (src .entry)) at 0 empty) ⌝ }
 {
     let n = field_count(kind);
     let mut v = [0u32; 40];

@@ -1,12 +1,13 @@
 -- `reading::read_fields` meets its contract.
 use Prim.Native.Nat.{_-_, _≤_, _<_}
-use mathlib.Core.Path.{_≡_, refl, sym, _∙_}
+use mathlib.Core.Path.{_≡_, refl, sym, ap, _∙_}
 use lib.ListN.{length, drop}
 use native.Mathlib.Omega.{arith}
 use borrow.Author.Needs.{needs}
 use Rattle.field.specs.Fields.{fieldsOf}
 use Rattle.field.proofs.Tables.{fields-fit}
 use Rattle.reading.specs.Fields.{empty, fields}
+use Rattle.reading.specs.Result.{runOf}
 use Rattle.reading.proofs.Fields.{fields-read, field-absent, field-refused, field-stored}
 use Rattle.reading.proofs.read_fields.Statement.{statement}
 use Rattle.reading.proofs.read_fields.Tie as tie
@@ -51,8 +52,8 @@ returns c =
     let s = l .before .before .before in
     let h : l .loop .i < length (fieldsOf (s .args .kind)) = omega (arith, l .loop .inv .0) in
     c .refused-run .ensures
-    ∙ sym (l .loop .inv .3 ∙ field-refused (fieldsOf (s .args .kind)) (s .args .src .now) (l .loop .p) (l .loop .i) (l .loop .v) h _ (d .field-of .ensures)
-    (sym (a .domain-asked .ensures) ∙ r .before .if1 .taken) _ (r .read-field .ensures) _ (x .q .given .1))
+    ∙ ap runOf (sym (l .loop .inv .3 ∙ field-refused (fieldsOf (s .args .kind)) (s .args .src .now) (l .loop .p) (l .loop .i) (l .loop .v) h _ (d .field-of .ensures)
+    (sym (a .domain-asked .ensures) ∙ r .before .if1 .taken) _ (r .read-field .ensures) _ (x .q .given .1)))
 
 enum-known-x : tie.Need-enum-known-x Inv-loop μ-loop
 enum-known-x c = search needs
@@ -109,7 +110,7 @@ returns-2 : tie.Need-returns-2 Inv-loop μ-loop
 returns-2 c =
     let l = c .before in
     let s = l .before .before .before in
-    sym (l .loop .inv .3 ∙ fields-read (fieldsOf (s .args .kind)) _ _ (l .loop .i) _ (omega (arith, l .loop .inv .0)))
+    ap runOf (sym (l .loop .inv .3 ∙ fields-read (fieldsOf (s .args .kind)) _ _ (l .loop .i) _ (omega (arith, l .loop .inv .0))))
 
 pub read-fields-spec : {M : Type 1} → statement M
 read-fields-spec =
