@@ -26,11 +26,11 @@ use Rattle.reinforcement.specs.Reinforcement.{beamBars, beamRatio, columnBars}
 use Rattle.quantity.proofs.Choice.{both-true}
 use Rattle.relation.proofs.Relation.{Related, related, column-order, apart-alone}
 use Rattle.reinforcement.proofs.Reinforcement.{few-bars, ratio, column-few-bars}
-use Rattle.field.specs.declared.Domain.{Domain}
-use Rattle.field.specs.declared.Domain.the-variants.{Range, ZeroOr, Bar, Grade, Steel, LinkSteel, GroupDiameter, GroupBars}
-use Rattle.field.specs.Domain.{between, bar, holds, asked, fieldHolds}
+use Rattle.domain.specs.declared.Domain.{Domain}
+use Rattle.domain.specs.declared.Domain.the-variants.{Range, ZeroOr, Bar, Grade, Steel, LinkSteel, GroupDiameter, GroupBars}
+use Rattle.domain.specs.Domain.{between, bar, holds, asked, fieldHolds}
 use Rattle.field.specs.Fields.{groups, beamFields, columnFields, meshFields, fieldsOf, fieldsHold, known}
-use Rattle.field.proofs.Tables.{in-between}
+use Rattle.domain.proofs.Between.{in-between}
 use Rattle.built.specs.declared.Verdict.{Verdict}
 use Rattle.built.specs.declared.Verdict.the-variants.{Accepted}
 use Rattle.built.specs.Slots.{memberAt, slot, group, groupsAt, beamAt, columnAt, meshAt}

@@ -10,9 +10,9 @@ use lib.Dec.{T, ltb, ltb→lt}
 use lib.ListN.{length, getD, take}
 use borrow.Author.Tests.{lt-ltb}
 use Rattle.bars.specs.declared.Group.{Group}
-use Rattle.field.specs.declared.Domain.{Domain}
-use Rattle.field.specs.declared.Domain.the-variants.{Range, ZeroOr, Bar, Grade, Steel, LinkSteel, GroupDiameter, GroupBars}
-use Rattle.field.specs.Domain.{holds, asked, fieldHolds}
+use Rattle.domain.specs.declared.Domain.{Domain}
+use Rattle.domain.specs.declared.Domain.the-variants.{Range, ZeroOr, Bar, Grade, Steel, LinkSteel, GroupDiameter, GroupBars}
+use Rattle.domain.specs.Domain.{holds, asked, fieldHolds}
 use Rattle.field.specs.Fields.{groups, kinds, beamFields, columnFields, meshFields, fieldsOf, fieldsHold, known}
 use Rattle.member.specs.Member.{beam, column, mesh}
 use Rattle.standard.proofs.Table.{every, every-at, and-left, and-right}

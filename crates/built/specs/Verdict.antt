@@ -10,7 +10,7 @@ use Rattle.question.specs.declared.Question.the-variants.{Mark, Kind, Field, Re
 use Rattle.member.specs.Member.{Beam, Column, Mesh}
 use Rattle.relation.specs.Relation.{beamRelation, columnRelation, meshRelation}
 use Rattle.reinforcement.specs.Reinforcement.{beamBars, beamRatio, columnBars}
-use Rattle.field.specs.Domain.{between}
+use Rattle.domain.specs.Domain.{between}
 use Rattle.field.specs.Fields.{fieldsOf, fieldsHold, known}
 use Rattle.built.specs.declared.Verdict.{Verdict}
 use Rattle.built.specs.declared.Verdict.the-variants.{Accepted, Refused}

@@ -9,18 +9,14 @@ use native.Mathlib.Omega.{arith}
 use lib.Dec.{leb, leb→le}
 use lib.ListN.{length, getD, drop, List·getD-append}
 use lib.Seq.{drop-cons, getD-append-add}
-use borrow.Author.Tests.{leb-true}
 use Rattle.standard.proofs.Table.{every-at}
-use Rattle.quantity.proofs.Choice.{both-true}
-use Rattle.field.specs.declared.Domain.{Domain}
-use Rattle.field.specs.declared.Domain.the-variants.{Grade}
-use Rattle.field.specs.Domain.{between, fieldHolds}
+use Rattle.domain.specs.declared.Domain.{Domain}
+use Rattle.domain.specs.declared.Domain.the-variants.{Grade}
+use Rattle.domain.specs.Domain.{fieldHolds}
 use Rattle.field.specs.Fields.{kinds, fieldsOf, known, fieldsHold}
+use Rattle.domain.proofs.Between.{in-between}
 
 -- ---- A kind.
-
-pub in-between : {lo hi x : ℕ} → between lo hi x ≡ true → (lo ≤ x) × (x ≤ hi)
-in-between {lo} {hi} {x} e = let t = both-true (leb lo x) (leb x hi) e in (leb-true _ _ (t .0), leb-true _ _ (t .1))
 
 pub known-below : (kind : ℕ) → known kind ≡ true → kind < 4
 unfolding known

@@ -4,18 +4,9 @@ use Prim.Native.Nat.{ℕ, _+_}
 use mathlib.Core.Bool.{Bool, true, _&&_}
 use mathlib.Core.List.{List, [], _∷_, _++_}
 use lib.ListN.{getD}
-use Rattle.field.specs.declared.Domain.{Domain}
-use Rattle.field.specs.declared.Domain.the-variants.{
-  Range,
-  ZeroOr,
-  Bar,
-  Grade,
-  Steel,
-  LinkSteel,
-  GroupDiameter,
-  GroupBars,
-}
-use Rattle.field.specs.Domain.{between, fieldHolds}
+use Rattle.domain.specs.declared.Domain.{Domain}
+use Rattle.domain.specs.declared.Domain.the-variants.{Range, ZeroOr, Bar, Grade, Steel, LinkSteel, GroupDiameter, GroupBars}
+use Rattle.domain.specs.Domain.{between, fieldHolds}
 
 -- the groups of a list whose count stands in slot k: diameter and number of bars of each
 abbrev pub groups : ℕ → List Domain

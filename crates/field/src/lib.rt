@@ -2,91 +2,16 @@
 ghost use mathlib.Core.Path.{_≡_};
 ghost use mathlib.Core.Bool.{true};
 ghost use Prim.Native.Nat.{_+_, _<_};
-ghost use lib.Dec.{ltb};
 ghost use lib.ListN.{length, getD, take, drop};
-ghost use Rattle.field.specs.Domain.{between, bar, holds, asked};
-ghost use Rattle.field.specs.Domain.{fieldHolds};
 ghost use Rattle.field.specs.Fields.{groups, beamFields, columnFields, meshFields, fieldsOf, known, fieldsHold};
+use domain::Domain;
+use domain::is_between;
+use domain::slot_holds;
 use quantity::both;
-use quantity::either;
-use standard::area_of;
-use standard::is_grade;
-use standard::is_link_steel;
-use standard::is_steel;
-
-// What a field may hold.
-pub enum Domain {
-    // from the first number to the second
-    Range(u32, u32),
-    // 0, or from the first number to the second
-    ZeroOr(u32, u32),
-    // a bar of the table, from the first diameter to the second
-    Bar(u32, u32),
-    // a grade of concrete, a steel of bars, a steel of links
-    Grade,
-    Steel,
-    LinkSteel,
-    // a group's diameter and its number of bars: the slot of its count, and its place in the list from 0
-    GroupDiameter(u32, u32),
-    GroupBars(u32, u32),
-}
 
 // A member's fields, one to a slot in the order of its kind's table, four groups to each list. Slots past a count are not read.
 pub struct Slots {
     pub v: [u32; 40],
-}
-
-pub fn is_between(lo: u32, hi: u32, x: u32) -> bool
-    ensures { λ r. ⌜ r ≡ between lo hi x ⌝ }
-{
-    both(lo <= x, x <= hi)
-}
-
-fn is_bar(lo: u32, hi: u32, x: u32) -> bool
-    ensures { λ r. ⌜ r ≡ bar lo hi x ⌝ }
-{
-    both(is_between(lo, hi, x), 0 < area_of(x))
-}
-
-// Question 7 of a field that holds x.
-pub fn domain_holds(d: Domain, x: u32) -> bool
-    ensures { λ r. ⌜ r ≡ holds d x ⌝ }
-{
-    match d {
-        Domain::Range(lo, hi) => is_between(lo, hi, x),
-        Domain::ZeroOr(lo, hi) => either(x == 0, is_between(lo, hi, x)),
-        Domain::Bar(lo, hi) => is_bar(lo, hi, x),
-        Domain::Grade => is_grade(x),
-        Domain::Steel => is_steel(x),
-        Domain::LinkSteel => is_link_steel(x),
-        Domain::GroupDiameter(_, _) => is_bar(6, 50, x),
-        Domain::GroupBars(_, _) => is_between(1, 20, x),
-    }
-}
-
-// Whether a list whose count stands in slot `count` has a group at `place`.
-fn has_group(v: &[u32; 40], count: u32, place: u32) -> bool
-    ensures { λ r. ⌜ r ≡ ltb place (getD (now (v .entry)) count 0) ⌝ }
-{
-    // the length of a slice is known to the proof, that of a lent array is not
-    let slots: &[u32] = v;
-    let i = count as usize;
-    if i < slots.len() {
-        place < slots[i]
-    } else {
-        false
-    }
-}
-
-// Whether the field is there: a group past its count is not.
-pub fn domain_asked(d: Domain, v: &[u32; 40]) -> bool
-    ensures { λ r. ⌜ r ≡ asked d (now (v .entry)) ⌝ }
-{
-    match d {
-        Domain::GroupDiameter(count, place) => has_group(v, count, place),
-        Domain::GroupBars(count, place) => has_group(v, count, place),
-        _ => true,
-    }
 }
 
 // Field j of a list of groups whose count stands in slot k.
@@ -205,18 +130,6 @@ pub fn field_of(kind: u32, i: usize) -> Domain
         1 => beam_field(i),
         2 => column_field(i),
         _ => mesh_field(i),
-    }
-}
-
-// Question 7 of the field in slot i.
-fn slot_holds(d: Domain, i: usize, v: &[u32; 40]) -> bool
-    requires { ⌜ i < 40 ⌝ }
-    ensures { λ r. ⌜ r ≡ fieldHolds d i (now (v .entry)) ⌝ }
-{
-    if domain_asked(d, v) {
-        domain_holds(d, v[i])
-    } else {
-        true
     }
 }
 

@@ -7,7 +7,7 @@ use Rattle.text.specs.Text.{lineOf}
 use Rattle.question.specs.declared.Refusal.{Refusal}
 use Rattle.bars.specs.declared.Group.{Group}
 use Rattle.member.specs.Member.{Member}
-use Rattle.schedule.specs.Reading.{Reading, got}
+use Rattle.reading.specs.Reading.{Reading, got}
 use Rattle.schedule.specs.Schedule.{schedule}
 use Rattle.checks.specs.Claim.{SafeLine}
 use Rattle.lent.specs.declared.Lent.{Lent}

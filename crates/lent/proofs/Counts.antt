@@ -11,11 +11,11 @@ use borrow.Author.Tests.{le-leb}
 use Rattle.question.specs.declared.Question.the-variants.{Mark, Kind, Field}
 use Rattle.bars.specs.declared.Group.{Group}
 use Rattle.bars.specs.Accepted.{AcceptedGroup, AcceptedGroups}
-use Rattle.field.specs.declared.Domain.{Domain}
-use Rattle.field.specs.declared.Domain.the-variants.{Range}
-use Rattle.field.specs.Domain.{holds, asked, fieldHolds}
+use Rattle.domain.specs.declared.Domain.{Domain}
+use Rattle.domain.specs.declared.Domain.the-variants.{Range}
+use Rattle.domain.specs.Domain.{holds, asked, fieldHolds}
 use Rattle.field.specs.Fields.{beamFields, columnFields, fieldsOf, fieldsHold, known}
-use Rattle.field.proofs.Tables.{in-between}
+use Rattle.domain.proofs.Between.{in-between}
 use Rattle.built.specs.declared.Verdict.{Verdict}
 use Rattle.built.specs.Slots.{slot, beamAt, columnAt}
 use Rattle.built.specs.Verdict.{ask, markInRange, memberVerdict, builtVerdict}

@@ -11,9 +11,9 @@ use lib.Seq.{getD-take}
 use borrow.Author.Tests.{ltb-true, ne-eqb}
 use Rattle.quantity.specs.Choice.{if_then_else_}
 use Rattle.bars.specs.declared.Group.{Group}
-use Rattle.field.specs.declared.Domain.{Domain}
-use Rattle.field.specs.declared.Domain.the-variants.{Range}
-use Rattle.field.specs.Domain.{asked}
+use Rattle.domain.specs.declared.Domain.{Domain}
+use Rattle.domain.specs.declared.Domain.the-variants.{Range}
+use Rattle.domain.specs.Domain.{asked}
 use Rattle.field.specs.Fields.{groups, beamFields, columnFields, fieldsOf, known}
 use Rattle.built.specs.Slots.{slot}
 use Rattle.built.proofs.Unread.{Agree, built-same, member-same}

@@ -16,8 +16,8 @@ use Rattle.question.specs.declared.Refusal.{Refusal}
 use Rattle.question.specs.declared.Question.the-variants.{Buffer}
 use Rattle.question.specs.Question.{numberOf}
 use Rattle.member.specs.Member.{Member}
-use Rattle.schedule.specs.Reading.{Reading, got, refusal}
-use Rattle.schedule.specs.Reading as reading
+use Rattle.reading.specs.Reading.{Reading, got, refusal}
+use Rattle.reading.specs.Reading as reading
 use Rattle.schedule.specs.Schedule.{schedule}
 use Rattle.schedule.proofs.Accepted.{schedule-accepted}
 use Rattle.report.specs.declared.Answer.{Answer}

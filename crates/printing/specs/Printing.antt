@@ -10,7 +10,7 @@ use Rattle.line.specs.Line.{refusalWords, lineText}
 use Rattle.question.specs.declared.Question.the-variants.{Buffer}
 use Rattle.question.specs.declared.Refusal.{Refusal}
 use Rattle.question.specs.Question.{numberOf}
-use Rattle.schedule.specs.Reading.{Reading, got, no, refusal}
+use Rattle.reading.specs.Reading.{Reading, got, no, refusal}
 use Rattle.report.specs.Report.{reportOf}
 
 -- refused N member M

@@ -25,8 +25,8 @@ use Rattle.built.specs.declared.Verdict.the-variants as verdicts
 use Rattle.built.specs.Slots.{memberOf}
 use Rattle.built.specs.Verdict.{builtVerdict}
 use Rattle.built.proofs.Accepted.{accepted-built}
-use Rattle.schedule.specs.Reading.{Reading, got, refusal}
-use Rattle.schedule.specs.Reading as reading
+use Rattle.reading.specs.Reading.{Reading, got, refusal}
+use Rattle.reading.specs.Reading as reading
 use Rattle.schedule.specs.Schedule.{schedule}
 use Rattle.schedule.specs.Result.{answerOf}
 use Rattle.schedule.specs.declared.Answer.the-variants as surveyed

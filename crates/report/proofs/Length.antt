@@ -16,7 +16,7 @@ use Rattle.built.specs.Slots.{memberOf}
 use Rattle.built.specs.Verdict.{builtVerdict}
 use Rattle.built.proofs.Accepted.{accepted-built}
 use Rattle.outcome.specs.declared.Outcome.{Outcome}
-use Rattle.schedule.specs.Reading.{Reading, Placed, got, no}
+use Rattle.reading.specs.Reading.{Reading, Placed, got, no}
 use Rattle.schedule.specs.Schedule.{member}
 use Rattle.schedule.proofs.Accepted.{member-was}
 use Rattle.checks.specs.Outcome.{markOf, outcomeOf}

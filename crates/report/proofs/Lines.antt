@@ -16,7 +16,7 @@ use Rattle.outcome.specs.declared.Outcome.{Outcome}
 use Rattle.member.specs.Member.{Member, beam, column, mesh}
 use Rattle.built.specs.declared.Built.{Built}
 use Rattle.built.specs.Slots.{memberAt, memberOf, beamAt, columnAt, meshAt}
-use Rattle.schedule.specs.Reading.{Reading, got, no, placed, Placed, Got}
+use Rattle.reading.specs.Reading.{Reading, got, no, placed, Placed, Got}
 use Rattle.schedule.specs.Schedule.{member, members}
 use Rattle.schedule.proofs.Members.{first-read, members-length}
 use Rattle.schedule.proofs.Accepted.{any-before}

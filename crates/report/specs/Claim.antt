@@ -7,7 +7,7 @@ use Rattle.text.specs.Text.{valueOf, wordOf, lineOf}
 use Rattle.member.specs.Member.{Member}
 use Rattle.built.specs.declared.Built.{Built}
 use Rattle.built.specs.Slots.{memberOf}
-use Rattle.schedule.specs.Reading.{got}
+use Rattle.reading.specs.Reading.{got}
 use Rattle.schedule.specs.Schedule.{schedule}
 use Rattle.checks.specs.Claim.{SafeLine}
 use Rattle.report.specs.declared.Answer.{Answer}

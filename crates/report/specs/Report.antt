@@ -20,7 +20,7 @@ use Rattle.built.specs.Slots.{memberOf}
 use Rattle.built.specs.declared.Verdict.{Verdict}
 use Rattle.built.specs.declared.Verdict.the-variants as verdicts
 use Rattle.built.specs.Verdict.{builtVerdict}
-use Rattle.schedule.specs.Reading.{Reading, got, no, Placed, refusal}
+use Rattle.reading.specs.Reading.{Reading, got, no, Placed, refusal}
 use Rattle.schedule.specs.Schedule.{member, schedule}
 use Rattle.checks.specs.Outcome.{markOf, outcomeOf}
 use Rattle.report.specs.declared.Answer.{Answer}

@@ -6,7 +6,7 @@ ghost use lib.ListN.{length};
 ghost use Rattle.text.specs.Put.{Put};
 ghost use Rattle.line.specs.Line.{headWords, lineWords, lineText};
 ghost use Rattle.number.specs.Number.{numberAt};
-ghost use Rattle.schedule.specs.Reading.{refusal};
+ghost use Rattle.reading.specs.Reading.{refusal};
 ghost use Rattle.report.specs.Report.{Printed, AcceptedFrom, linesFrom, placeAfter};
 ghost use Rattle.report.specs.Claim.{Reported, MemberReported};
 use built::Built;

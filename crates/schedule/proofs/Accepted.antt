@@ -16,19 +16,21 @@ use Rattle.member.specs.Member.{Member}
 use Rattle.member.specs.Accepted.{AcceptedMember, AcceptedMembers}
 use Rattle.quantity.proofs.Choice.{both-true}
 use Rattle.field.specs.Fields.{fieldsOf, fieldsHold, known}
-use Rattle.field.proofs.Tables.{in-between}
+use Rattle.domain.proofs.Between.{in-between}
 use Rattle.built.specs.declared.Built.{Built}
 use Rattle.built.specs.declared.Verdict.{Verdict}
 use Rattle.built.specs.declared.Verdict.the-variants as verdicts
 use Rattle.built.specs.Slots.{memberOf}
 use Rattle.built.specs.Verdict.{markInRange, memberVerdict}
 use Rattle.built.proofs.Accepted.{accepted-member}
-use Rattle.schedule.specs.Reading.{Reading, got, no, Placed, placed, andThen, ask, passed, refusal, named, Got}
-use Rattle.schedule.specs.Schedule.{empty, checked, fields, whole, markRises, markAt, kindAt, member, members, schedule}
-use Rattle.schedule.specs.Taken.{taken, tookOf}
-use Rattle.schedule.proofs.Held.{on-checked, fields-held}
-use Rattle.schedule.proofs.Taken.{fields-taken, took-got}
-use Rattle.schedule.proofs.Members.{first-read, members-length, passes, number-passes}
+use Rattle.reading.specs.Reading.{Reading, got, no, Placed, placed, andThen, ask, passed, refusal, named, Got}
+use Rattle.reading.specs.Fields.{empty, checked, fields}
+use Rattle.schedule.specs.Schedule.{whole, markRises, markAt, kindAt, member, members, schedule}
+use Rattle.reading.specs.Taken.{taken, tookOf}
+use Rattle.reading.proofs.Checked.{on-checked, passes, number-passes}
+use Rattle.reading.proofs.Held.{fields-held}
+use Rattle.reading.proofs.Taken.{got-is, fields-taken, took-got}
+use Rattle.schedule.proofs.Members.{first-read, members-length}
 
 -- ---- Steps taken apart.
 
@@ -153,9 +155,6 @@ module _ (s : List ℕ) (p : ℕ) (ok : Got (member s p 0)) where
 
   value-is : (n : Number) (x next y after : ℕ) → n ≡ Value x next → n ≡ Value y after → (x ≡ y) × (next ≡ after)
   value-is n x next y after e f = (cc, cc)
-
-  got-is : {N A : Type 0} {a b : A} → _≡_ {A = Reading N A} (got a) (got b) → a ≡ b
-  got-is e = cc
 
   abbrev made : ℕ → ℕ → List ℕ → Built
   made m c w = record { mark = m; kind = c; fields = record { v = w } }

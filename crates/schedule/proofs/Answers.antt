@@ -13,7 +13,7 @@ use Rattle.number.specs.declared.Number.the-variants.{Value, Refused}
 use Rattle.number.specs.Number.{numberAt}
 use Rattle.member.specs.Member.{Member}
 use Rattle.schedule.specs.declared.Answer.the-variants as answers
-use Rattle.schedule.specs.Reading.{Reading, got, no, Placed, andThen, ask, refusal}
+use Rattle.reading.specs.Reading.{Reading, got, no, Placed, andThen, ask, refusal}
 use Rattle.schedule.specs.Schedule.{members, schedule}
 use Rattle.schedule.specs.Result.{placeAfter, answerOf}
 use Rattle.schedule.proofs.Members.{members-length}

@@ -10,12 +10,13 @@ use Rattle.member.specs.Member.{Member, beam, column, mesh}
 use Rattle.bars.specs.Sums.{barCount, area, groupArea}
 use Rattle.relation.specs.Relation.{flangeFits, compressionFits, depthFits, beamRelation, columnRelation, meshRelation}
 use Rattle.reinforcement.specs.Reinforcement.{beamBars, beamRatio, columnBars}
-use Rattle.field.specs.Domain.{holds, asked}
+use Rattle.domain.specs.Domain.{holds, asked}
 use Rattle.field.specs.Fields.{fieldsOf, known}
 use Rattle.built.specs.Slots.{beamAt, columnAt, meshAt, memberAt}
 use Rattle.built.specs.Verdict.{beamVerdict, columnVerdict, meshVerdict, memberVerdict, markInRange}
-use Rattle.schedule.specs.Reading.{got, no, refusal}
-use Rattle.schedule.specs.Schedule.{field, fields, whole, markRises, markAt, kindAt, member, members, schedule}
+use Rattle.reading.specs.Reading.{got, no, refusal}
+use Rattle.reading.specs.Fields.{field, fields}
+use Rattle.schedule.specs.Schedule.{whole, markRises, markAt, kindAt, member, members, schedule}
 
 -- a file that is refused, with its question and member
 abbrev Refuses : List ℕ → Question → ℕ → Type 0

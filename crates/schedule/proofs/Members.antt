@@ -1,7 +1,7 @@
 -- The steps of reading members, as the code takes them.
 use Prim.Native.Nat.{ℕ, zero, suc, _+_, _-_, _≤_, _<_}
 use mathlib.Core.Path.{_≡_, refl, sym, ap, _∙_}
-use mathlib.Core.Bool.{Bool, true, false}
+use mathlib.Core.Bool.{true}
 use mathlib.Core.List.{List, [], _∷_}
 use native.Mathlib.Omega.{arith}
 use lib.ListN.{length}
@@ -10,7 +10,6 @@ use Rattle.question.specs.declared.Question.the-variants.{Kind}
 use Rattle.question.specs.declared.Refusal.{Refusal}
 use Rattle.number.specs.declared.Number.{Number}
 use Rattle.number.specs.declared.Number.the-variants.{Value, Refused}
-use Rattle.number.specs.Number.{numberAt}
 use Rattle.member.specs.Member.{Member}
 use Rattle.field.specs.Fields.{fieldsOf, known}
 use Rattle.built.specs.declared.Built.{Built}
@@ -18,33 +17,14 @@ use Rattle.built.specs.declared.Verdict.{Verdict}
 use Rattle.built.specs.declared.Verdict.the-variants as verdicts
 use Rattle.built.specs.Slots.{memberOf}
 use Rattle.built.specs.Verdict.{memberVerdict}
-use Rattle.schedule.specs.declared.Run.{Run}
 use Rattle.schedule.specs.declared.MemberRead.{MemberRead}
-use Rattle.schedule.specs.declared.Answer.the-variants as answers
-use Rattle.schedule.specs.Reading.{Reading, got, no, Placed, placed, andThen, ofNumber, passed, refusal, named}
-use Rattle.schedule.specs.Schedule.{empty, checked, fields, whole, markAt, kindAt, member, members}
-use Rattle.schedule.proofs.Held.{on-checked}
-use Rattle.schedule.specs.Result.{runOf, readOf, marked, placeAfter}
-
--- ---- A number and its question.
-
-module _ (q : Question) (test : ℕ → Bool) (s : List ℕ) (p : ℕ) where
-  pub number-refused : (r : Question) → numberAt s p ≡ Refused r → checked q test s p ≡ no r
-  number-refused r e = rw e
-
-  pub number-passes : (x next : ℕ) → numberAt s p ≡ Value x next → test x ≡ true → checked q test s p ≡ got (placed x next)
-  number-passes x next e t = rw (e, t)
-
-  pub number-fails : (x next : ℕ) → numberAt s p ≡ Value x next → test x ≡ false → checked q test s p ≡ no q
-  number-fails x next e t = rw (e, t)
+use Rattle.reading.specs.Reading.{Reading, got, no, Placed, placed, andThen, ofNumber, passed, refusal, named}
+use Rattle.reading.specs.Fields.{empty, fields}
+use Rattle.schedule.specs.Schedule.{whole, markAt, kindAt, member, members}
+use Rattle.schedule.specs.Result.{readOf, marked, placeAfter}
+use Rattle.reading.proofs.Checked.{passes}
 
 -- ---- A member.
-
-pub run-got : (r : Run) → r .verdict ≡ verdicts.Accepted → runOf r ≡ got (placed (r .slots .v) (r .next))
-run-got r e = rw e
-
-pub run-no : (r : Run) (q : Question) → r .verdict ≡ verdicts.Refused q → runOf r ≡ no q
-run-no r q e = rw e
 
 pub read-got : (r : MemberRead) → r .verdict ≡ verdicts.Accepted → readOf r ≡ got (placed (r .mark) (r .next))
 read-got r e = rw e
@@ -99,15 +79,6 @@ module _ (s : List ℕ) (p before : ℕ) where
     pub member-whole : (k : Number) (kind next : ℕ) → ofNumber k ≡ kindAt s at → k ≡ Value kind next → member s p before ≡ whole mark kind s next
     unfolding member
     member-whole k kind next g h = rw (sym e ∙ ap ofNumber f, sym g ∙ ap ofNumber h)
-
--- a number that was taken passed its question
-pub passes : (q : Question) (test : ℕ → Bool) (s : List ℕ) (p x next : ℕ) → checked q test s p ≡ got (placed x next) → test x ≡ true
-passes q test s p x next =
-    on-checked (λ o. o ≡ got (placed x next) → test x ≡ true) q test s p
-    (λ y after _ t e.
-    let same : placed y after ≡ placed x next = cc in
-    rw (← ap (λ (r : Placed ℕ). r .value) same) t)
-    (λ r e. absurd (let z : _≡_ {A = ℕ} 0 1 = cc in omega arith))
 
 pub kind-known : (k : Number) (s : List ℕ) (p kind next : ℕ) → ofNumber k ≡ kindAt s p → k ≡ Value kind next → known kind ≡ true
 unfolding kindAt

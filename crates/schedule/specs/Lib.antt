@@ -1,4 +1,2 @@
-pub mod Reading
 pub mod Schedule
 pub mod Result
-pub mod Taken

@@ -6,7 +6,6 @@ use Rattle.question.specs.declared.Question.{Question}
 use Rattle.question.specs.declared.Refusal.{Refusal}
 use Rattle.member.specs.Member.{Member}
 use Rattle.built.specs.declared.Built.{Built}
-use Rattle.schedule.specs.declared.Run.{Run}
 use Rattle.schedule.specs.declared.MemberRead.{MemberRead}
 use Rattle.schedule.specs.declared.Head.{Head}
 use Rattle.schedule.specs.declared.Ends.{Ends}
@@ -14,10 +13,7 @@ use Rattle.schedule.specs.declared.Ends.the-variants.{At}
 use Rattle.schedule.specs.declared.Ends.the-variants as ends
 use Rattle.schedule.specs.declared.Answer.{Answer}
 use Rattle.schedule.specs.declared.Answer.the-variants.{Accepted, Refused}
-use Rattle.schedule.specs.Reading.{Reading, got, no, Placed, placed, passed}
-
-abbrev pub runOf : Run → Reading Question (Placed (List ℕ))
-runOf r = passed (r .verdict) (got (placed (r .slots .v) (r .next)))
+use Rattle.reading.specs.Reading.{Reading, got, no, Placed, placed, passed}
 
 abbrev pub readOf : MemberRead → Reading Question (Placed ℕ)
 readOf r = passed (r .verdict) (got (placed (r .mark) (r .next)))

@@ -4,39 +4,17 @@ use Prim.Native.Nat.{ℕ, zero, suc, _+_}
 use mathlib.Core.Bool.{Bool, _&&_}
 use mathlib.Core.List.{List, [], _∷_}
 use lib.Dec.{leb, ltb}
-use lib.ListN.{length, set, replicate}
-use Rattle.quantity.specs.Choice.{if_then_else_}
+use lib.ListN.{length}
 use Rattle.question.specs.declared.Question.{Question}
-use Rattle.question.specs.declared.Question.the-variants.{Size, Count, Mark, Kind, Field, Trailing}
+use Rattle.question.specs.declared.Question.the-variants.{Size, Count, Mark, Kind, Trailing}
 use Rattle.question.specs.declared.Refusal.{Refusal}
-use Rattle.number.specs.Number.{numberAt}
 use Rattle.member.specs.Member.{Member}
-use Rattle.field.specs.declared.Domain.{Domain}
-use Rattle.field.specs.Domain.{holds, asked}
 use Rattle.field.specs.Fields.{fieldsOf, known}
 use Rattle.built.specs.declared.Built.{Built}
 use Rattle.built.specs.Slots.{memberOf}
 use Rattle.built.specs.Verdict.{markInRange, memberVerdict}
-use Rattle.schedule.specs.Reading.{Reading, got, Placed, placed, andThen, ask, ofNumber, passed, refusal, named}
-
--- the number at p: 2 and 3, then question q
-abbrev pub checked : Question → (ℕ → Bool) → List ℕ → ℕ → Reading Question (Placed ℕ)
-checked q test s p = andThen (ofNumber (numberAt s p)) (λ x. ask q (test (x .value)) (got x))
-
--- the field of domain d at p, into slot i of v; a group past its count is not there
-unfoldable pub field : Domain → List ℕ → ℕ → ℕ → List ℕ → Reading Question (Placed (List ℕ))
-field d s p i v =
-    if asked d v
-    then andThen (checked Field (holds d) s p) (λ x. got (placed (set v i (x .value)) (x .next)))
-    else got (placed v p)
-
--- fields from p on, the first into slot i of v
-unfoldable pub fields : List Domain → List ℕ → ℕ → ℕ → List ℕ → Reading Question (Placed (List ℕ))
-fields [] s p i v = got (placed v p)
-fields (d ∷ ds) s p i v = andThen (field d s p i v) (λ r. fields ds s (r .next) (i + 1) (r .value))
-
-abbrev pub empty : List ℕ
-empty = replicate 40 0
+use Rattle.reading.specs.Reading.{Reading, got, Placed, placed, andThen, ask, passed, refusal, named}
+use Rattle.reading.specs.Fields.{checked, fields, empty}
 
 -- the member with this mark and kind, whose fields stand from p on: 7, then 8 to 10
 unfoldable pub whole : ℕ → ℕ → List ℕ → ℕ → Reading Question (Placed Built)

@@ -1,22 +1,15 @@
 // Reads the bytes of a schedule: every byte string is accepted or gets the first question answered no, with its member.
 ghost use mathlib.Core.Path.{_≡_};
 ghost use mathlib.Core.Bool.{true};
-ghost use Prim.Native.Nat.{_+_, _-_, _≤_, min};
-ghost use Rattle.field.specs.Domain.{holds};
-ghost use Rattle.field.specs.Fields.{groups, beamFields, columnFields, fieldsOf, known};
-ghost use Rattle.schedule.specs.Reading.{got, no, placed, ofNumber, refusal, Got};
-ghost use Rattle.schedule.specs.Taken.{run, taken, tookOf};
-ghost use Rattle.schedule.specs.Schedule.{empty, checked, fields, whole, markRises, markAt, kindAt, member, members, schedule};
-ghost use Rattle.schedule.specs.Result.{runOf, readOf, marked, headed, endsOf, placeAfter, answerOf};
+ghost use Prim.Native.Nat.{_≤_};
+ghost use Rattle.field.specs.Fields.{known};
+ghost use Rattle.reading.specs.Reading.{got, no, placed, ofNumber, refusal, Got};
+ghost use Rattle.reading.specs.Fields.{empty};
+ghost use Rattle.schedule.specs.Schedule.{whole, markRises, markAt, kindAt, member, members, schedule};
+ghost use Rattle.schedule.specs.Result.{readOf, marked, headed, endsOf, placeAfter, answerOf};
 use built::Verdict;
 use built::mark_in_range;
 use built::member_verdict;
-use field::Domain;
-use field::Slots;
-use field::domain_asked;
-use field::domain_holds;
-use field::field_count;
-use field::field_of;
 use field::fields_hold;
 use field::is_known;
 use number::Number;
@@ -24,13 +17,8 @@ use number::number_at;
 use quantity::both;
 use question::Question;
 use question::Refusal;
-
-// Fields read so far: refused, or the slots and the place after the last field.
-pub struct Run {
-    pub verdict: Verdict,
-    pub next: usize,
-    pub slots: Slots,
-}
+use reading::read_fields;
+use reading::take_fields;
 
 // A member read: refused, or its mark and the place after it.
 pub struct MemberRead {
@@ -65,149 +53,6 @@ fn refused(q: Question, member: u32) -> Answer
         question: q,
         member,
     })
-}
-
-fn no_slots() -> Slots
-    ensures { λ r. ⌜ r .v ≡ empty ⌝ }
-{
-    Slots { v: [0; 40] }
-}
-
-fn refused_run(q: Question) -> Run
-    ensures { λ r. ⌜ runOf r ≡ no q ⌝ }
-{
-    Run {
-        verdict: Verdict::Refused(q),
-        next: 0,
-        slots: no_slots(),
-    }
-}
-
-// The field at `at`: questions 2, 3 and 7.
-fn read_field(src: &[u8], at: usize, d: Domain) -> Number
-    ensures { λ r. ⌜ ofNumber r ≡ checked Question.Field (holds d) (now (src .entry)) at ⌝ }
-{
-    match number_at(src, at) {
-        Number::Refused(q) => Number::Refused(q),
-        Number::Value(x, next) => {
-            if domain_holds(d, x) {
-                Number::Value(x, next)
-            } else {
-                Number::Refused(Question::Field)
-            }
-        }
-    }
-}
-
-// The fields of a kind, from `at` on.
-fn read_fields(src: &[u8], at: usize, kind: u32) -> Run
-    requires { ⌜ known kind ≡ true ⌝ }
-    ensures { λ r. ⌜ runOf r ≡ fields (fieldsOf kind) (now (src .entry)) at 0 empty ⌝ }
-{
-    let n = field_count(kind);
-    let mut v = [0u32; 40];
-    let mut p = at;
-    let mut i: usize = 0;
-    while i < n {
-        let d = field_of(kind, i);
-        if domain_asked(d, &v) {
-            match read_field(src, p, d) {
-                Number::Refused(q) => return refused_run(q),
-                Number::Value(x, next) => {
-                    v[i] = x;
-                    p = next;
-                    i += 1;
-                }
-            }
-        } else {
-            i += 1;
-        }
-    }
-    let slots = Slots { v };
-    Run {
-        verdict: Verdict::Accepted,
-        next: p,
-        slots,
-    }
-}
-
-// The numbers from `at` on into the slots from `from` up to `end`: the place after them.
-fn take_run(src: &[u8], at: usize, v: &mut [u32; 40], from: usize, end: usize) -> Number
-    requires { ⌜ (from ≤ end) × (end ≤ 40) ⌝ }
-    ensures { λ r. ⌜ tookOf r (now (v .exit)) ≡ run (end - from) (now (src .entry)) at from (now (v .entry)) ⌝ }
-{
-    let mut p = at;
-    let mut i = from;
-    while i < end {
-        match number_at(src, p) {
-            Number::Refused(q) => return Number::Refused(q),
-            Number::Value(x, next) => {
-                v[i] = x;
-                p = next;
-                i += 1;
-            }
-        }
-    }
-    Number::Value(0, p)
-}
-
-fn at_most_four(count: u32) -> usize
-    ensures { λ r. ⌜ r ≡ min count 4 ⌝ }
-{
-    if count < 4 { count as usize } else { 4 }
-}
-
-// The groups of a list whose count stands in slot k.
-fn take_list(src: &[u8], at: usize, v: &mut [u32; 40], k: usize) -> Number
-    requires { ⌜ k ≤ 31 ⌝ }
-    ensures { λ r. ⌜ tookOf r (now (v .exit)) ≡ taken (groups k) (now (src .entry)) at (k + 1) (now (v .entry)) ⌝ }
-{
-    let n = at_most_four(v[k]);
-    take_run(src, at, v, k + 1, k + 1 + 2 * n)
-}
-
-// The fields of a beam.
-fn take_beam(src: &[u8], at: usize, v: &mut [u32; 40]) -> Number
-    ensures { λ r. ⌜ tookOf r (now (v .exit)) ≡ taken beamFields (now (src .entry)) at 0 (now (v .entry)) ⌝ }
-{
-    match take_run(src, at, v, 0, 9) {
-        Number::Refused(q) => Number::Refused(q),
-        Number::Value(_, tension) => match take_list(src, tension, v, 8) {
-            Number::Refused(q) => Number::Refused(q),
-            Number::Value(_, count) => match take_run(src, count, v, 17, 18) {
-                Number::Refused(q) => Number::Refused(q),
-                Number::Value(_, compression) => match take_list(src, compression, v, 17) {
-                    Number::Refused(q) => Number::Refused(q),
-                    Number::Value(_, links) => take_run(src, links, v, 26, 37),
-                },
-            },
-        },
-    }
-}
-
-// The fields of a column.
-fn take_column(src: &[u8], at: usize, v: &mut [u32; 40]) -> Number
-    ensures { λ r. ⌜ tookOf r (now (v .exit)) ≡ taken columnFields (now (src .entry)) at 0 (now (v .entry)) ⌝ }
-{
-    match take_run(src, at, v, 0, 5) {
-        Number::Refused(q) => Number::Refused(q),
-        Number::Value(_, groups) => match take_list(src, groups, v, 4) {
-            Number::Refused(q) => Number::Refused(q),
-            Number::Value(_, links) => take_run(src, links, v, 13, 17),
-        },
-    }
-}
-
-// The fields of a kind from `at` on, into v: the place after them.
-fn take_fields(src: &[u8], at: usize, kind: u32, v: &mut [u32; 40]) -> Number
-    requires { ⌜ known kind ≡ true ⌝ }
-    ensures { λ r. ⌜ tookOf r (now (v .exit)) ≡ taken (fieldsOf kind) (now (src .entry)) at 0 (now (v .entry)) ⌝ }
-{
-    match kind {
-        1 => take_beam(src, at, v),
-        2 => take_column(src, at, v),
-        _ => take_run(src, at, v, 0, 11),
-    }
 }
 
 fn refused_member(q: Question) -> MemberRead
@@ -301,7 +146,7 @@ fn read_kind(src: &[u8], at: usize) -> Number
 }
 
 // The member at `at`, its mark above the one before.
-pub fn read_member(src: &[u8], at: usize, before: u32) -> MemberRead
+fn read_member(src: &[u8], at: usize, before: u32) -> MemberRead
     ensures { λ r. ⌜ readOf r ≡ marked (member (now (src .entry)) at before) ⌝ }
 {
     match read_mark(src, at, before) {

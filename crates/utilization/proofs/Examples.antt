@@ -17,7 +17,7 @@ use Rattle.question.specs.declared.Question.the-variants.{Field}
 use Rattle.bars.specs.Sums.{barCount, area, sumD, sumE, groupArea, groupDiameters, groupSquares}
 use Rattle.relation.specs.Relation.{flangeFits, compressionFits, depthFits, beamRelation, columnRelation, meshRelation}
 use Rattle.reinforcement.specs.Reinforcement.{beamBars, beamRatio, columnBars}
-use Rattle.field.specs.Domain.{asked, holds, fieldHolds}
+use Rattle.domain.specs.Domain.{asked, holds, fieldHolds}
 use Rattle.field.specs.Fields.{fieldsOf, known}
 use Rattle.section.specs.Section.{sectionOf}
 use Rattle.bending.specs.Steps.{leastSteel, compressionDepth, isDeep, deepCapacity, shallowCapacity, bendingCapacity}

@@ -4,8 +4,8 @@ use mathlib.Core.Path.{_≡_, _∙_}
 use mathlib.Core.Bool.{true, _&&_}
 use mathlib.Core.List.{List}
 use native.Mathlib.Nat.{add-assoc}
-use Rattle.field.specs.declared.Domain.the-variants.{GroupDiameter, GroupBars}
-use Rattle.field.specs.Domain.{fieldHolds}
+use Rattle.domain.specs.declared.Domain.the-variants.{GroupDiameter, GroupBars}
+use Rattle.domain.specs.Domain.{fieldHolds}
 use Rattle.field.specs.Fields.{groups, fieldsHold}
 use Rattle.field.proofs.Tables.{slot-then, slot-last}
 use borrow.Author.Needs.{needs}

@@ -3,7 +3,7 @@ use mathlib.Core.Path.{sym, _∙_}
 use Rattle.field.specs.Fields.{known}
 use Rattle.question.specs.declared.Question.the-variants.{Kind}
 use Rattle.schedule.specs.Schedule.{kindAt}
-use Rattle.schedule.proofs.Members.{number-refused, number-passes, number-fails}
+use Rattle.reading.proofs.Checked.{number-refused, number-passes, number-fails}
 use borrow.Author.Needs.{needs}
 use Rattle.schedule.proofs.read_kind.Statement.{statement}
 use Rattle.schedule.proofs.read_kind.Tie as tie

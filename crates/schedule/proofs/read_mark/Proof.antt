@@ -2,7 +2,7 @@
 use mathlib.Core.Path.{sym, _∙_}
 use Rattle.schedule.specs.Schedule.{markRises, markAt}
 use Rattle.question.specs.declared.Question.the-variants.{Mark}
-use Rattle.schedule.proofs.Members.{number-refused, number-passes, number-fails}
+use Rattle.reading.proofs.Checked.{number-refused, number-passes, number-fails}
 use borrow.Author.Needs.{needs}
 use Rattle.schedule.proofs.read_mark.Statement.{statement}
 use Rattle.schedule.proofs.read_mark.Tie as tie

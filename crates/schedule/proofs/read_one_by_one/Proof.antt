@@ -1,7 +1,8 @@
 -- `schedule::read_one_by_one` meets its contract.
 use mathlib.Core.Path.{sym, _∙_}
-use Rattle.schedule.proofs.Held.{fields-held}
-use Rattle.schedule.proofs.Members.{run-got, run-no, whole-no, whole-passed}
+use Rattle.reading.proofs.Held.{fields-held}
+use Rattle.reading.proofs.Checked.{run-got, run-no}
+use Rattle.schedule.proofs.Members.{whole-no, whole-passed}
 use borrow.Author.Needs.{needs}
 use Rattle.schedule.proofs.read_one_by_one.Statement.{statement}
 use Rattle.schedule.proofs.read_one_by_one.Tie as tie
@@ -22,19 +23,19 @@ member-verdict-requires : tie.Need-member-verdict-requires
 member-verdict-requires c κs =
     let f = c .before .before .before .before .before in
     let s = f .before .before in
-    (s .pre, fields-held _ _ _ _ _ (s .pre) (sym (f .read-fields .ensures) ∙ run-got _ (c .before .enum-told .given .1)))
+    (s .pre, fields-held _ _ _ _ _ (s .pre) (run-got _ _ (f .read-fields .ensures) (c .before .enum-told .given .1)))
 
 returns : tie.Need-returns
 returns c =
     let v = c .before .before in
     let f = v .before .before .before .before in
-    c .refused-member .ensures ∙ sym (whole-no _ _ _ _ _ (sym (f .read-fields .ensures) ∙ run-no _ _ (v .verdict .given .1)))
+    c .refused-member .ensures ∙ sym (whole-no _ _ _ _ _ (run-no _ _ _ (f .read-fields .ensures) (v .verdict .given .1)))
 
 returns-2 : tie.Need-returns-2
 returns-2 c =
     let e = c .before in
     let f = e .before .before .before .before .before in
-    rw (c .member-verdict .ensures) (sym (whole-passed _ _ _ _ _ _ (sym (f .read-fields .ensures) ∙ run-got _ (e .before .enum-told .given .1))))
+    rw (c .member-verdict .ensures) (sym (whole-passed _ _ _ _ _ _ (run-got _ _ (f .read-fields .ensures) (e .before .enum-told .given .1))))
 
 pub read-one-by-one-spec : {M : Type 1} → statement M
 read-one-by-one-spec =

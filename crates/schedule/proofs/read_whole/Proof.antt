@@ -1,7 +1,7 @@
 -- `schedule::read_whole` meets its contract.
 use mathlib.Core.Path.{refl, sym, _∙_}
 use Rattle.schedule.proofs.Members.{whole-passed}
-use Rattle.schedule.proofs.Taken.{took-got, taken-fields}
+use Rattle.reading.proofs.Taken.{took-got, taken-fields}
 use borrow.Author.Needs.{needs}
 use Rattle.schedule.proofs.read_whole.Statement.{statement}
 use Rattle.schedule.proofs.read_whole.Tie as tie

@@ -2,7 +2,7 @@
 use mathlib.Core.Path.{sym, ap, _∙_}
 use Rattle.schedule.proofs.Accepted.{mark-taken, kind-taken, kind-is-known, fields-not-refused, member-taken}
 use borrow.Author.Needs.{needs}
-use Rattle.schedule.specs.Taken.{taken}
+use Rattle.reading.specs.Taken.{taken}
 use Rattle.schedule.proofs.take_member.Statement.{statement}
 use Rattle.schedule.proofs.take_member.Tie as tie
 

@@ -1,0 +1,39 @@
+-- `domain::slot_holds` meets its contract.
+use mathlib.Core.Path.{sym, _∙_}
+use Rattle.domain.specs.Domain.{fieldHolds}
+use borrow.Author.Needs.{needs}
+use Rattle.domain.proofs.slot_holds.Statement.{statement}
+use Rattle.domain.proofs.slot_holds.Tie as tie
+
+domain-asked-requires : tie.Need-domain-asked-requires
+domain-asked-requires c κs = search needs
+
+mul-domain-holds : tie.Need-mul-domain-holds
+mul-domain-holds c = search needs
+
+element-copy-out-domain-holds : tie.Need-element-copy-out-domain-holds
+element-copy-out-domain-holds c = search needs
+
+domain-holds-requires : tie.Need-domain-holds-requires
+domain-holds-requires c κs = search needs
+
+returns : tie.Need-returns
+unfolding fieldHolds
+returns c =
+    let t = c .before .before in
+    rw (sym (t .before .domain-asked .ensures) ∙ t .if1 .taken) (c .domain-holds .ensures)
+
+returns-2 : tie.Need-returns-2
+unfolding fieldHolds
+returns-2 c = rw (sym (c .before .domain-asked .ensures) ∙ c .if1 .left)
+
+pub slot-holds-spec : {M : Type 1} → statement M
+slot-holds-spec =
+    tie.close
+    (tie.spec
+    domain-asked-requires
+    mul-domain-holds
+    element-copy-out-domain-holds
+    domain-holds-requires
+    returns
+    returns-2)

@@ -1,0 +1,121 @@
+-- Fields that were read pass question 7 as they stand in their slots: a count is read before the groups that it names.
+use Prim.Native.Nat.{ℕ, _+_, _≤_, _<_}
+use mathlib.Core.Path.{_≡_, refl, sym, ap, _∙_}
+use mathlib.Core.Bool.{Bool, true, false, _&&_}
+use mathlib.Core.List.{List, [], _∷_}
+use native.Mathlib.Omega.{arith}
+use lib.Dec.{T, ltb}
+use lib.ListN.{length, getD, set, length-set}
+use lib.Seq.{getD-set-same, getD-set-other}
+use borrow.Author.Tests.{ltb-true}
+use Rattle.quantity.proofs.Choice.{if-case, both-true}
+use Rattle.standard.proofs.Table.{every-at}
+use Rattle.question.specs.declared.Question.{Question}
+use Rattle.question.specs.declared.Question.the-variants.{Field}
+use Rattle.number.specs.declared.Number.the-variants.{Value}
+use Rattle.number.specs.Number.{numberAt}
+use Rattle.domain.specs.declared.Domain.{Domain}
+use Rattle.domain.specs.declared.Domain.the-variants.{Range, ZeroOr, Bar, Grade, Steel, LinkSteel, GroupDiameter, GroupBars}
+use Rattle.domain.specs.Domain.{asked, holds, fieldHolds}
+use Rattle.field.specs.Fields.{kinds, fieldsOf, fieldsHold, known}
+use Rattle.field.proofs.Tables.{known-below, fields-fit}
+use Rattle.reading.specs.Reading.{Reading, got, no, Placed, placed, andThen}
+use Rattle.reading.specs.Fields.{empty, field, fields}
+use Rattle.reading.proofs.Checked.{on-checked}
+
+-- ---- Cases.
+
+-- a field is not there, is stored, or refused
+pub on-field : (P : Reading Question (Placed (List ℕ)) → Type 0) (d : Domain) (s : List ℕ) (p i : ℕ) (v : List ℕ)
+    → (asked d v ≡ false → P (got (placed v p)))
+    → ((x next : ℕ) → asked d v ≡ true → numberAt s p ≡ Value x next → holds d x ≡ true → P (got (placed (set v i x) next)))
+    → ((q : Question) → P (no q)) → P (field d s p i v)
+unfolding field
+on-field P d s p i v absent stored refused =
+    if-case P (asked d v) _ _
+    (λ a. on-checked (λ o. P (andThen o (λ x. got (placed (set v i (x .value)) (x .next))))) Field (holds d) s p (λ x next n h. stored x next a n h) refused)
+    absent
+
+-- ---- Counts before groups.
+
+unfoldable pub countBelow : Domain → ℕ → Bool
+countBelow (GroupDiameter k j) i = ltb k i
+countBelow (GroupBars k j) i = ltb k i
+countBelow (Range a b) i = true
+countBelow (ZeroOr a b) i = true
+countBelow (Bar a b) i = true
+countBelow Grade i = true
+countBelow Steel i = true
+countBelow LinkSteel i = true
+
+unfoldable pub ordered : ℕ → List Domain → Bool
+ordered i [] = true
+ordered i (d ∷ ds) = countBelow d i && ordered (i + 1) ds
+
+-- whether a field is asked turns on slots below its own
+pub asked-same : (d : Domain) (i : ℕ) (v w : List ℕ) → countBelow d i ≡ true → ((j : ℕ) → j < i → getD w j 0 ≡ getD v j 0) → asked d w ≡ asked d v
+unfolding asked countBelow
+asked-same (GroupDiameter k j) i v w b same = rw (same k (ltb-true k i b))
+asked-same (GroupBars k j) i v w b same = rw (same k (ltb-true k i b))
+asked-same (Range _ _) i v w b same = refl
+asked-same (ZeroOr _ _) i v w b same = refl
+asked-same (Bar _ _) i v w b same = refl
+asked-same Grade i v w b same = refl
+asked-same Steel i v w b same = refl
+asked-same LinkSteel i v w b same = refl
+
+-- ---- Held.
+
+record Held (fs : List Domain) (i : ℕ) (v w : List ℕ) : Type 0 where
+  holds-all : fieldsHold fs i w ≡ true
+  kept : (j : ℕ) → j < i → getD w j 0 ≡ getD v j 0
+
+module _ (s w : List ℕ) (q : ℕ) where
+  End : Reading Question (Placed (List ℕ)) → Type 0
+  End o = o ≡ got (placed w q)
+
+  same-value : (v : List ℕ) (p : ℕ) → End (got (placed v p)) → v ≡ w
+  unfolding End
+  same-value v p e = let f : placed v p ≡ placed w q = cc in ap (λ (x : Placed (List ℕ)). x .value) f
+
+  held : (fs : List Domain) (p i : ℕ) (v : List ℕ) → ordered i fs ≡ true → i + length fs ≤ length v → End (fields fs s p i v) → Held fs i v w
+  unfolding End fields ordered fieldHolds
+  held [] p i v o l e = record { holds-all = refl; kept = λ j h. ap (λ (x : List ℕ). getD x j 0) (sym (same-value v p e)) }
+  held (d ∷ ds) p i v o l u =
+      on-field (λ r. andThen r (λ x. fields ds s (x .next) (i + 1) (x .value)) ≡ got (placed w q) → Held (d ∷ ds) i v w) d s p i v
+      (λ a e.
+      let h = held ds p (i + 1) v (b .1) (omega arith) e in
+      record {
+        holds-all = rw (asked-same d i v w (b .0) (λ j k. h .kept j (omega arith)), a) (h .holds-all);
+        kept = λ j k. h .kept j (omega arith);
+      })
+      (λ x next _ _ t e.
+      let h = held ds next (i + 1) (set v i x) (b .1) (rw (length-set v i x) (omega arith)) e in
+      let at : getD w i 0 ≡ x = h .kept i (omega arith) ∙ getD-set-same v i x 0 (omega arith) in
+      record {
+        holds-all = rw (at, t) (rw (if-case (λ (y : Bool). y ≡ true) (asked d w) true true (λ _. refl) (λ _. refl)) (h .holds-all));
+        kept = λ j k. h .kept j (omega arith) ∙ getD-set-other v i j x 0 (λ f. omega arith);
+      })
+      (λ r e. absurd (let z : _≡_ {A = ℕ} 0 1 = cc in omega arith))
+      u
+    where
+      b : (countBelow d i ≡ true) × (ordered (i + 1) ds ≡ true)
+      b = both-true (countBelow d i) (ordered (i + 1) ds) o
+
+inOrder : ℕ → List Domain → Bool
+inOrder k fs = ordered 0 fs
+
+T-true : (b : Bool) → T b → b ≡ true
+T-true true t = refl
+T-true false t = absurd t
+
+pub in-order : (kind : ℕ) → known kind ≡ true → ordered 0 (fieldsOf kind) ≡ true
+unfolding inOrder ordered countBelow fieldsOf
+in-order kind k = T-true _ (every-at inOrder [] kinds tt kind (known-below kind k))
+
+-- fields of a kind that were read pass question 7
+pub fields-held : (s w : List ℕ) (p q kind : ℕ) → known kind ≡ true → fields (fieldsOf kind) s p 0 empty ≡ got (placed w q)
+    → fieldsHold (fieldsOf kind) 0 w ≡ true
+unfolding End
+fields-held s w p q kind k e =
+    held s w q (fieldsOf kind) p 0 empty (in-order kind k) (omega (arith, fields-fit kind k)) e .holds-all

@@ -1,0 +1,4 @@
+pub mod Checked
+pub mod Fields
+pub mod Held
+pub mod Taken

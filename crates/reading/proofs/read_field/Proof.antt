@@ -1,0 +1,45 @@
+-- `reading::read_field` meets its contract.
+use mathlib.Core.Path.{sym, _∙_}
+use Rattle.question.specs.declared.Question.the-variants.{Field}
+use Rattle.domain.specs.Domain.{holds}
+use Rattle.reading.proofs.Checked.{number-refused, number-passes, number-fails}
+use borrow.Author.Needs.{needs}
+use Rattle.reading.proofs.read_field.Statement.{statement}
+use Rattle.reading.proofs.read_field.Tie as tie
+
+number-at-requires : tie.Need-number-at-requires
+number-at-requires c κs = search needs
+
+enum-known-q : tie.Need-enum-known-q
+enum-known-q c = search needs
+
+enum-known-x : tie.Need-enum-known-x
+enum-known-x c = search needs
+
+domain-holds-requires : tie.Need-domain-holds-requires
+domain-holds-requires c κs = search needs
+
+returns : tie.Need-returns
+returns c = sym (number-refused Field (holds _) _ _ _ (sym (c .before .before .before .number-at .ensures) ∙ c .before .q .given .1))
+
+returns-2 : tie.Need-returns-2
+returns-2 c =
+    let x = c .before .before .before in
+    sym (number-passes Field (holds _) _ _ _ _ (sym (x .before .before .number-at .ensures) ∙ x .x .given .1) (sym (c .before .domain-holds .ensures) ∙ c .if1 .taken))
+
+returns-3 : tie.Need-returns-3
+returns-3 c =
+    let x = c .before .before .before in
+    sym (number-fails Field (holds _) _ _ _ _ (sym (x .before .before .number-at .ensures) ∙ x .x .given .1) (sym (c .before .domain-holds .ensures) ∙ c .if1 .left))
+
+pub read-field-spec : {M : Type 1} → statement M
+read-field-spec =
+    tie.close
+    (tie.spec
+    number-at-requires
+    enum-known-q
+    enum-known-x
+    domain-holds-requires
+    returns
+    returns-2
+    returns-3)

@@ -1,0 +1,75 @@
+-- `reading::take_run` meets its contract.
+use Prim.Native.Nat.{_-_, _≤_}
+use mathlib.Core.Path.{_≡_, refl, sym, _∙_}
+use borrow.Author.Needs.{needs}
+use Rattle.reading.specs.Taken.{run}
+use Rattle.reading.proofs.Taken.{run-ended, run-refused, run-stored}
+use Rattle.reading.proofs.take_run.Statement.{statement}
+use Rattle.reading.proofs.take_run.Tie as tie
+
+abbrev Inv-loop : tie.InvT-loop
+Inv-loop src at v₀ from end p₀ i₀ v p i = (i ≤ end) × (run (end - from) src at from v₀ ≡ run (end - i) src p i v)
+
+abbrev μ-loop : tie.MeasureT-loop
+μ-loop src at v₀ from end p₀ i₀ v p i = end - i
+
+loop-holds : tie.Need-loop-holds Inv-loop μ-loop
+loop-holds c = (search needs, refl)
+
+number-at-requires : tie.Need-number-at-requires Inv-loop μ-loop
+number-at-requires c κs = search needs
+
+enum-known-q : tie.Need-enum-known-q Inv-loop μ-loop
+enum-known-q c = search needs
+
+returns : tie.Need-returns Inv-loop μ-loop
+returns c =
+    let x = c .before in
+    let n = x .before .before in
+    let l = n .before .before in
+    sym (l .loop .inv .1 ∙ run-refused _ _ _ _ _ (n .before .loop-test .taken) _ (sym (n .number-at .ensures) ∙ x .q .given .1))
+
+enum-known-x : tie.Need-enum-known-x Inv-loop μ-loop
+enum-known-x c = search needs
+
+mul-v : tie.Need-mul-v Inv-loop μ-loop
+mul-v c = search needs
+
+element-write-v : tie.Need-element-write-v Inv-loop μ-loop
+element-write-v c = search needs
+
+add-i : tie.Need-add-i Inv-loop μ-loop
+add-i c = search needs
+
+loop-less : tie.Need-loop-less Inv-loop μ-loop
+loop-less c = search needs
+
+loop-again : tie.Need-loop-again Inv-loop μ-loop
+loop-again c =
+    let x = c .before in
+    let n = x .before .before in
+    let l = n .before .before in
+    (search needs, l .loop .inv .1 ∙ run-stored _ _ _ _ _ (n .before .loop-test .taken) _ _ (sym (n .number-at .ensures) ∙ x .x .given .1))
+
+returns-2 : tie.Need-returns-2 Inv-loop μ-loop
+returns-2 c =
+    let l = c .before in
+    sym (l .loop .inv .1 ∙ run-ended _ _ _ _ _ (c .loop-test .left))
+
+pub take-run-spec : {M : Type 1} → statement M
+take-run-spec =
+    tie.close
+    (tie.spec
+    Inv-loop
+    μ-loop
+    loop-holds
+    number-at-requires
+    enum-known-q
+    returns
+    enum-known-x
+    mul-v
+    element-write-v
+    add-i
+    loop-less
+    loop-again
+    returns-2)

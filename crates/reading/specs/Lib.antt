@@ -1,0 +1,4 @@
+pub mod Reading
+pub mod Fields
+pub mod Taken
+pub mod Result

@@ -1,0 +1,170 @@
+// Reads the fields of a member: one by one, each held to its domain, or all at once.
+ghost use mathlib.Core.Path.{_≡_};
+ghost use mathlib.Core.Bool.{true};
+ghost use Prim.Native.Nat.{_+_, _-_, _≤_, min};
+ghost use Rattle.domain.specs.Domain.{holds};
+ghost use Rattle.field.specs.Fields.{groups, beamFields, columnFields, fieldsOf, known};
+ghost use Rattle.reading.specs.Reading.{no, ofNumber};
+ghost use Rattle.reading.specs.Taken.{run, taken, tookOf};
+ghost use Rattle.reading.specs.Fields.{empty, checked, fields};
+ghost use Rattle.reading.specs.Result.{runOf};
+use built::Verdict;
+use domain::Domain;
+use domain::domain_asked;
+use domain::domain_holds;
+use field::Slots;
+use field::field_count;
+use field::field_of;
+use number::Number;
+use number::number_at;
+use question::Question;
+
+// Fields read so far: refused, or the slots and the place after the last field.
+pub struct Run {
+    pub verdict: Verdict,
+    pub next: usize,
+    pub slots: Slots,
+}
+
+fn no_slots() -> Slots
+    ensures { λ r. ⌜ r .v ≡ empty ⌝ }
+{
+    Slots { v: [0; 40] }
+}
+
+fn refused_run(q: Question) -> Run
+    ensures { λ r. ⌜ r ≡ runOf (no q) ⌝ }
+{
+    Run {
+        verdict: Verdict::Refused(q),
+        next: 0,
+        slots: no_slots(),
+    }
+}
+
+// The field at `at`: questions 2, 3 and 7.
+fn read_field(src: &[u8], at: usize, d: Domain) -> Number
+    ensures { λ r. ⌜ ofNumber r ≡ checked Question.Field (holds d) (now (src .entry)) at ⌝ }
+{
+    match number_at(src, at) {
+        Number::Refused(q) => Number::Refused(q),
+        Number::Value(x, next) => {
+            if domain_holds(d, x) {
+                Number::Value(x, next)
+            } else {
+                Number::Refused(Question::Field)
+            }
+        }
+    }
+}
+
+// The fields of a kind, from `at` on.
+pub fn read_fields(src: &[u8], at: usize, kind: u32) -> Run
+    requires { ⌜ known kind ≡ true ⌝ }
+    ensures { λ r. ⌜ r ≡ runOf (fields (fieldsOf kind) (now (src .entry)) at 0 empty) ⌝ }
+{
+    let n = field_count(kind);
+    let mut v = [0u32; 40];
+    let mut p = at;
+    let mut i: usize = 0;
+    while i < n {
+        let d = field_of(kind, i);
+        if domain_asked(d, &v) {
+            match read_field(src, p, d) {
+                Number::Refused(q) => return refused_run(q),
+                Number::Value(x, next) => {
+                    v[i] = x;
+                    p = next;
+                    i += 1;
+                }
+            }
+        } else {
+            i += 1;
+        }
+    }
+    let slots = Slots { v };
+    Run {
+        verdict: Verdict::Accepted,
+        next: p,
+        slots,
+    }
+}
+
+// The numbers from `at` on into the slots from `from` up to `end`: the place after them.
+fn take_run(src: &[u8], at: usize, v: &mut [u32; 40], from: usize, end: usize) -> Number
+    requires { ⌜ (from ≤ end) × (end ≤ 40) ⌝ }
+    ensures { λ r. ⌜ tookOf r (now (v .exit)) ≡ run (end - from) (now (src .entry)) at from (now (v .entry)) ⌝ }
+{
+    let mut p = at;
+    let mut i = from;
+    while i < end {
+        match number_at(src, p) {
+            Number::Refused(q) => return Number::Refused(q),
+            Number::Value(x, next) => {
+                v[i] = x;
+                p = next;
+                i += 1;
+            }
+        }
+    }
+    Number::Value(0, p)
+}
+
+fn at_most_four(count: u32) -> usize
+    ensures { λ r. ⌜ r ≡ min count 4 ⌝ }
+{
+    if count < 4 { count as usize } else { 4 }
+}
+
+// The groups of a list whose count stands in slot k.
+fn take_list(src: &[u8], at: usize, v: &mut [u32; 40], k: usize) -> Number
+    requires { ⌜ k ≤ 31 ⌝ }
+    ensures { λ r. ⌜ tookOf r (now (v .exit)) ≡ taken (groups k) (now (src .entry)) at (k + 1) (now (v .entry)) ⌝ }
+{
+    let n = at_most_four(v[k]);
+    take_run(src, at, v, k + 1, k + 1 + 2 * n)
+}
+
+// The fields of a beam.
+fn take_beam(src: &[u8], at: usize, v: &mut [u32; 40]) -> Number
+    ensures { λ r. ⌜ tookOf r (now (v .exit)) ≡ taken beamFields (now (src .entry)) at 0 (now (v .entry)) ⌝ }
+{
+    match take_run(src, at, v, 0, 9) {
+        Number::Refused(q) => Number::Refused(q),
+        Number::Value(_, tension) => match take_list(src, tension, v, 8) {
+            Number::Refused(q) => Number::Refused(q),
+            Number::Value(_, count) => match take_run(src, count, v, 17, 18) {
+                Number::Refused(q) => Number::Refused(q),
+                Number::Value(_, compression) => match take_list(src, compression, v, 17) {
+                    Number::Refused(q) => Number::Refused(q),
+                    Number::Value(_, links) => take_run(src, links, v, 26, 37),
+                },
+            },
+        },
+    }
+}
+
+// The fields of a column.
+fn take_column(src: &[u8], at: usize, v: &mut [u32; 40]) -> Number
+    ensures { λ r. ⌜ tookOf r (now (v .exit)) ≡ taken columnFields (now (src .entry)) at 0 (now (v .entry)) ⌝ }
+{
+    match take_run(src, at, v, 0, 5) {
+        Number::Refused(q) => Number::Refused(q),
+        Number::Value(_, groups) => match take_list(src, groups, v, 4) {
+            Number::Refused(q) => Number::Refused(q),
+            Number::Value(_, links) => take_run(src, links, v, 13, 17),
+        },
+    }
+}
+
+// The fields of a kind from `at` on, into v: the place after them, or the refusal of a number.
+pub fn take_fields(src: &[u8], at: usize, kind: u32, v: &mut [u32; 40]) -> Number
+    requires { ⌜ known kind ≡ true ⌝ }
+    ensures { λ r. ⌜ tookOf r (now (v .exit)) ≡ taken (fieldsOf kind) (now (src .entry)) at 0 (now (v .entry)) ⌝ }
+{
+    match kind {
+        1 => take_beam(src, at, v),
+        2 => take_column(src, at, v),
+        _ => take_run(src, at, v, 0, 11),
+    }
+}
