@@ -20,6 +20,9 @@ use Rattle.domain.specs.declared.Domain.the-variants.{Range, ZeroOr, Bar, Grade
 use Rattle.domain.specs.Domain.{asked, holds, fieldHolds}
 use Rattle.field.specs.Fields.{groups, beamFields, columnFields, meshFields, fieldsOf, fieldsHold, known}
 use Rattle.field.proofs.Tables.{fields-fit}
+use Rattle.reading.specs.declared.Took.{Took}
+use Rattle.reading.specs.declared.Took.the-variants.{To}
+use Rattle.reading.specs.declared.Took.the-variants as took
 use Rattle.reading.specs.Reading.{Reading, got, no, Placed, placed, andThen, ask, ofNumber}
 use Rattle.reading.specs.Fields.{empty, checked, field, fields}
 use Rattle.reading.specs.Taken.{Stopped, stopped, storedBy, stored, run, taken, tookOf}
@@ -128,15 +131,15 @@ module _ (s : List ℕ) (p end i : ℕ) (v : List ℕ) where
     run-stored x next e = rw (one-more, e)
 
 -- a row that was refused or taken, and what follows it
-module _ (n : Number) (v : List ℕ) (o : Reading Stopped (Placed (List ℕ))) (took : tookOf n v ≡ o) (f : Placed (List ℕ) → Reading Stopped (Placed (List ℕ))) where
-  pub then-refused : (q : Question) → n ≡ Refused q → andThen o f ≡ no (stopped q v)
-  then-refused q e = rw (← took, e)
+module _ (n : Took) (v : List ℕ) (o : Reading Stopped (Placed (List ℕ))) (was : tookOf n v ≡ o) (f : Placed (List ℕ) → Reading Stopped (Placed (List ℕ))) where
+  pub then-refused : (q : Question) → n ≡ took.Refused q → andThen o f ≡ no (stopped q v)
+  then-refused q e = rw (← was, e)
 
-  pub then-on : (x next : ℕ) → n ≡ Value x next → andThen o f ≡ f (placed v next)
-  then-on x next e = rw (← took, e)
+  pub then-on : (next : ℕ) → n ≡ To next → andThen o f ≡ f (placed v next)
+  then-on next e = rw (← was, e)
 
-pub took-got : (n : Number) (v : List ℕ) (o : Reading Stopped (Placed (List ℕ))) → tookOf n v ≡ o → (x next : ℕ) → n ≡ Value x next → o ≡ got (placed v next)
-took-got n v o took x next e = rw (← took, e)
+pub took-got : (n : Took) (v : List ℕ) (o : Reading Stopped (Placed (List ℕ))) → tookOf n v ≡ o → (next : ℕ) → n ≡ To next → o ≡ got (placed v next)
+took-got n v o was next e = rw (← was, e)
 
 -- ---- Rows.
 

@@ -9,6 +9,9 @@ use Rattle.number.specs.declared.Number.the-variants.{Value, Refused}
 use Rattle.number.specs.Number.{numberAt}
 use Rattle.domain.specs.declared.Domain.{Domain}
 use Rattle.domain.specs.Domain.{asked}
+use Rattle.reading.specs.declared.Took.{Took}
+use Rattle.reading.specs.declared.Took.the-variants.{To}
+use Rattle.reading.specs.declared.Took.the-variants as took
 use Rattle.reading.specs.Reading.{Reading, got, no, Placed, placed, andThen}
 
 -- a number refused, and the slots as they are then
@@ -40,6 +43,6 @@ taken (d ∷ ds) s p i v =
     andThen (if asked d v then stored s p i v else got (placed v p)) (λ r. taken ds s (r .next) (i + 1) (r .value))
 
 -- what the code's answer and its slots v afterwards say
-abbrev pub tookOf : Number → List ℕ → Reading Stopped (Placed (List ℕ))
-tookOf (Value x next) v = got (placed v next)
-tookOf (Refused q) v = no (stopped q v)
+abbrev pub tookOf : Took → List ℕ → Reading Stopped (Placed (List ℕ))
+tookOf (To next) v = got (placed v next)
+tookOf (took.Refused q) v = no (stopped q v)

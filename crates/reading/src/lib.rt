@@ -26,6 +26,12 @@ pub struct Run {
     pub slots: Slots,
 }
 
+// Numbers taken: the place after them, or the refusal of one.
+pub enum Took {
+    To(usize),
+    Refused(Question),
+}
+
 fn no_slots() -> Slots
     ensures { λ r. ⌜ r .v ≡ empty ⌝ }
 {
@@ -91,7 +97,7 @@ pub fn read_fields(src: &[u8], at: usize, kind: u32) -> Run
 }
 
 // The numbers from `at` on into the slots from `from` up to `end`: the place after them.
-fn take_run(src: &[u8], at: usize, v: &mut [u32; 40], from: usize, end: usize) -> Number
+fn take_run(src: &[u8], at: usize, v: &mut [u32; 40], from: usize, end: usize) -> Took
     requires { ⌜ (from ≤ end) × (end ≤ 40) ⌝ }
     ensures { λ r. ⌜ tookOf r (now (v .exit)) ≡ run (end - from) (now (src .entry)) at from (now (v .entry)) ⌝ }
 {
@@ -99,7 +105,7 @@ fn take_run(src: &[u8], at: usize, v: &mut [u32; 40], from: usize, end: usize) -
     let mut i = from;
     while i < end {
         match number_at(src, p) {
-            Number::Refused(q) => return Number::Refused(q),
+            Number::Refused(q) => return Took::Refused(q),
             Number::Value(x, next) => {
                 v[i] = x;
                 p = next;
@@ -107,7 +113,7 @@ fn take_run(src: &[u8], at: usize, v: &mut [u32; 40], from: usize, end: usize) -
             }
         }
     }
-    Number::Value(0, p)
+    Took::To(p)
 }
 
 fn at_most_four(count: u32) -> usize
@@ -117,7 +123,7 @@ fn at_most_four(count: u32) -> usize
 }
 
 // The groups of a list whose count stands in slot k.
-fn take_list(src: &[u8], at: usize, v: &mut [u32; 40], k: usize) -> Number
+fn take_list(src: &[u8], at: usize, v: &mut [u32; 40], k: usize) -> Took
     requires { ⌜ k ≤ 31 ⌝ }
     ensures { λ r. ⌜ tookOf r (now (v .exit)) ≡ taken (groups k) (now (src .entry)) at (k + 1) (now (v .entry)) ⌝ }
 {
@@ -126,18 +132,18 @@ fn take_list(src: &[u8], at: usize, v: &mut [u32; 40], k: usize) -> Number
 }
 
 // The fields of a beam.
-fn take_beam(src: &[u8], at: usize, v: &mut [u32; 40]) -> Number
+fn take_beam(src: &[u8], at: usize, v: &mut [u32; 40]) -> Took
     ensures { λ r. ⌜ tookOf r (now (v .exit)) ≡ taken beamFields (now (src .entry)) at 0 (now (v .entry)) ⌝ }
 {
     match take_run(src, at, v, 0, 9) {
-        Number::Refused(q) => Number::Refused(q),
-        Number::Value(_, tension) => match take_list(src, tension, v, 8) {
-            Number::Refused(q) => Number::Refused(q),
-            Number::Value(_, count) => match take_run(src, count, v, 17, 18) {
-                Number::Refused(q) => Number::Refused(q),
-                Number::Value(_, compression) => match take_list(src, compression, v, 17) {
-                    Number::Refused(q) => Number::Refused(q),
-                    Number::Value(_, links) => take_run(src, links, v, 26, 37),
+        Took::Refused(q) => Took::Refused(q),
+        Took::To(tension) => match take_list(src, tension, v, 8) {
+            Took::Refused(q) => Took::Refused(q),
+            Took::To(count) => match take_run(src, count, v, 17, 18) {
+                Took::Refused(q) => Took::Refused(q),
+                Took::To(compression) => match take_list(src, compression, v, 17) {
+                    Took::Refused(q) => Took::Refused(q),
+                    Took::To(links) => take_run(src, links, v, 26, 37),
                 },
             },
         },
@@ -145,20 +151,20 @@ fn take_beam(src: &[u8], at: usize, v: &mut [u32; 40]) -> Number
 }
 
 // The fields of a column.
-fn take_column(src: &[u8], at: usize, v: &mut [u32; 40]) -> Number
+fn take_column(src: &[u8], at: usize, v: &mut [u32; 40]) -> Took
     ensures { λ r. ⌜ tookOf r (now (v .exit)) ≡ taken columnFields (now (src .entry)) at 0 (now (v .entry)) ⌝ }
 {
     match take_run(src, at, v, 0, 5) {
-        Number::Refused(q) => Number::Refused(q),
-        Number::Value(_, groups) => match take_list(src, groups, v, 4) {
-            Number::Refused(q) => Number::Refused(q),
-            Number::Value(_, links) => take_run(src, links, v, 13, 17),
+        Took::Refused(q) => Took::Refused(q),
+        Took::To(groups) => match take_list(src, groups, v, 4) {
+            Took::Refused(q) => Took::Refused(q),
+            Took::To(links) => take_run(src, links, v, 13, 17),
         },
     }
 }
 
 // The fields of a kind from `at` on, into v: the place after them, or the refusal of a number.
-pub fn take_fields(src: &[u8], at: usize, kind: u32, v: &mut [u32; 40]) -> Number
+pub fn take_fields(src: &[u8], at: usize, kind: u32, v: &mut [u32; 40]) -> Took
     requires { ⌜ known kind ≡ true ⌝ }
     ensures { λ r. ⌜ tookOf r (now (v .exit)) ≡ taken (fieldsOf kind) (now (src .entry)) at 0 (now (v .entry)) ⌝ }
 {

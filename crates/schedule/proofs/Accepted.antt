@@ -26,6 +26,9 @@ use Rattle.built.proofs.Accepted.{accepted-member}
 use Rattle.reading.specs.Reading.{Reading, got, no, Placed, placed, andThen, ask, passed, refusal, named, Got}
 use Rattle.reading.specs.Fields.{empty, checked, fields}
 use Rattle.schedule.specs.Schedule.{whole, markRises, markAt, kindAt, member, members, schedule}
+use Rattle.reading.specs.declared.Took.{Took}
+use Rattle.reading.specs.declared.Took.the-variants.{To}
+use Rattle.reading.specs.declared.Took.the-variants as took
 use Rattle.reading.specs.Taken.{taken, tookOf}
 use Rattle.reading.proofs.Checked.{on-checked, passes, number-passes}
 use Rattle.reading.proofs.Held.{fields-held}
@@ -182,13 +185,13 @@ module _ (s : List ℕ) (p : ℕ) (ok : Got (member s p 0)) where
       takes : taken (fieldsOf kind) s first 0 empty ≡ got (placed (parts .slots) (was .value .next))
       takes = rw (← kind-same .0, ← kind-same .1) (parts .takes)
 
-      module _ (n : Number) (v : List ℕ) (t : tookOf n v ≡ taken (fieldsOf kind) s first 0 empty) where
-        pub fields-not-refused : (q : Question) → n ≡ Refused q → ⊥
-        fields-not-refused q e = no-got (sym (ap (λ (k : Number). tookOf k v) e) ∙ t ∙ takes)
+      module _ (n : Took) (v : List ℕ) (t : tookOf n v ≡ taken (fieldsOf kind) s first 0 empty) where
+        pub fields-not-refused : (q : Question) → n ≡ took.Refused q → ⊥
+        fields-not-refused q e = no-got (sym (ap (λ (k : Took). tookOf k v) e) ∙ t ∙ takes)
 
-        pub member-taken : (y next : ℕ) → n ≡ Value y next → member s p 0 ≡ got (placed (record { mark = mark; kind = kind; fields = record { v = v } }) next)
-        member-taken y next e =
-            let f : placed v next ≡ placed (parts .slots) (was .value .next) = got-is (sym (took-got n v _ t y next e) ∙ takes) in
+        pub member-taken : (next : ℕ) → n ≡ To next → member s p 0 ≡ got (placed (record { mark = mark; kind = kind; fields = record { v = v } }) next)
+        member-taken next e =
+            let f : placed v next ≡ placed (parts .slots) (was .value .next) = got-is (sym (took-got n v _ t next e) ∙ takes) in
             was .was
             ∙ ap (λ (b : Built). got (placed b (was .value .next))) (parts .member-is)
             ∙ ap (λ (m : ℕ). got (placed (made m (parts .kind) (parts .slots)) (was .value .next))) (mark-same .0)

@@ -17,6 +17,7 @@ use number::number_at;
 use quantity::both;
 use question::Question;
 use question::Refusal;
+use reading::Took;
 use reading::read_fields;
 use reading::take_fields;
 
@@ -91,8 +92,8 @@ fn read_whole(src: &[u8], at: usize, mark: u32, kind: u32) -> MemberRead
 {
     let mut v = [0u32; 40];
     match take_fields(src, at, kind, &mut v) {
-        Number::Refused(_) => read_one_by_one(src, at, mark, kind),
-        Number::Value(_, next) => {
+        Took::Refused(_) => read_one_by_one(src, at, mark, kind),
+        Took::To(next) => {
             if fields_hold(kind, &v) {
                 MemberRead {
                     verdict: member_verdict(kind, &v),
@@ -177,8 +178,8 @@ pub fn take_member(src: &[u8], at: usize, v: &mut [u32; 40]) -> Head
         Number::Value(mark, p) => match number_at(src, p) {
             Number::Refused(_) => no_head(),
             Number::Value(kind, first) => match take_fields(src, first, kind, v) {
-                Number::Refused(_) => no_head(),
-                Number::Value(_, next) => Head { mark, kind, next },
+                Took::Refused(_) => no_head(),
+                Took::To(next) => Head { mark, kind, next },
             },
         },
     }

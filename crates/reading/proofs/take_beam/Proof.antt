@@ -56,7 +56,7 @@ returns-2 c =
     let l = x .before .before in
     let a = l .before .before .before in
     let r = a .before .before in
-    sym (beam-rows _ _ _ ∙ then-on _ _ _ (r .take-run .ensures) _ _ _ (a .tension .given .1) ∙ then-refused _ _ _ (l .take-list .ensures) _ _ (x .q2 .given .1))
+    sym (beam-rows _ _ _ ∙ then-on _ _ _ (r .take-run .ensures) _ _ (a .tension .given .1) ∙ then-refused _ _ _ (l .take-list .ensures) _ _ (x .q2 .given .1))
 
 returns-3 : tie.Need-returns-3
 returns-3 c =
@@ -67,7 +67,7 @@ returns-3 c =
     let a = l .before .before .before in
     let r = a .before .before in
     sym
-    (beam-rows _ _ _ ∙ then-on _ _ _ (r .take-run .ensures) _ _ _ (a .tension .given .1) ∙ then-on _ _ _ (l .take-list .ensures) _ _ _ (b .count .given .1)
+    (beam-rows _ _ _ ∙ then-on _ _ _ (r .take-run .ensures) _ _ (a .tension .given .1) ∙ then-on _ _ _ (l .take-list .ensures) _ _ (b .count .given .1)
     ∙ then-refused _ _ _ (n .take-run2 .ensures) _ _ (x .q3 .given .1))
 
 returns-4 : tie.Need-returns-4
@@ -81,8 +81,8 @@ returns-4 c =
     let a = l .before .before .before in
     let r = a .before .before in
     sym
-    (beam-rows _ _ _ ∙ then-on _ _ _ (r .take-run .ensures) _ _ _ (a .tension .given .1) ∙ then-on _ _ _ (l .take-list .ensures) _ _ _ (b .count .given .1)
-    ∙ then-on _ _ _ (n .take-run2 .ensures) _ _ _ (d .compression .given .1) ∙ then-refused _ _ _ (m .take-list2 .ensures) _ _ (x .q4 .given .1))
+    (beam-rows _ _ _ ∙ then-on _ _ _ (r .take-run .ensures) _ _ (a .tension .given .1) ∙ then-on _ _ _ (l .take-list .ensures) _ _ (b .count .given .1)
+    ∙ then-on _ _ _ (n .take-run2 .ensures) _ _ (d .compression .given .1) ∙ then-refused _ _ _ (m .take-list2 .ensures) _ _ (x .q4 .given .1))
 
 returns-5 : tie.Need-returns-5
 returns-5 c =
@@ -96,8 +96,8 @@ returns-5 c =
     let r = a .before .before in
     c .take-run3 .ensures
     ∙ sym
-    (beam-rows _ _ _ ∙ then-on _ _ _ (r .take-run .ensures) _ _ _ (a .tension .given .1) ∙ then-on _ _ _ (l .take-list .ensures) _ _ _ (b .count .given .1)
-    ∙ then-on _ _ _ (n .take-run2 .ensures) _ _ _ (d .compression .given .1) ∙ then-on _ _ _ (m .take-list2 .ensures) _ _ _ (e .links .given .1))
+    (beam-rows _ _ _ ∙ then-on _ _ _ (r .take-run .ensures) _ _ (a .tension .given .1) ∙ then-on _ _ _ (l .take-list .ensures) _ _ (b .count .given .1)
+    ∙ then-on _ _ _ (n .take-run2 .ensures) _ _ (d .compression .given .1) ∙ then-on _ _ _ (m .take-list2 .ensures) _ _ (e .links .given .1))
 
 pub take-beam-spec : {M : Type 1} → statement M
 take-beam-spec =

@@ -38,7 +38,7 @@ returns-2 c =
     let l = x .before .before in
     let a = l .before .before .before in
     let r = a .before .before in
-    sym (column-rows _ _ _ ∙ then-on _ _ _ (r .take-run .ensures) _ _ _ (a .groups .given .1) ∙ then-refused _ _ _ (l .take-list .ensures) _ _ (x .q2 .given .1))
+    sym (column-rows _ _ _ ∙ then-on _ _ _ (r .take-run .ensures) _ _ (a .groups .given .1) ∙ then-refused _ _ _ (l .take-list .ensures) _ _ (x .q2 .given .1))
 
 returns-3 : tie.Need-returns-3
 returns-3 c =
@@ -47,7 +47,7 @@ returns-3 c =
     let a = l .before .before .before in
     let r = a .before .before in
     c .take-run2 .ensures
-    ∙ sym (column-rows _ _ _ ∙ then-on _ _ _ (r .take-run .ensures) _ _ _ (a .groups .given .1) ∙ then-on _ _ _ (l .take-list .ensures) _ _ _ (b .links .given .1))
+    ∙ sym (column-rows _ _ _ ∙ then-on _ _ _ (r .take-run .ensures) _ _ (a .groups .given .1) ∙ then-on _ _ _ (l .take-list .ensures) _ _ (b .links .given .1))
 
 pub take-column-spec : {M : Type 1} → statement M
 take-column-spec =

@@ -43,7 +43,7 @@ returns-2 c =
     rw (c .member-verdict .ensures)
     (sym
     (whole-passed _ _ _ _ _ _
-    (taken-fields _ _ _ _ _ (s .pre) (took-got _ _ _ (t .take-fields .ensures) _ _ (n .next .given .1)) (sym (h .fields-hold .ensures) ∙ i .if1 .taken))))
+    (taken-fields _ _ _ _ _ (s .pre) (took-got _ _ _ (t .take-fields .ensures) _ (n .next .given .1)) (sym (h .fields-hold .ensures) ∙ i .if1 .taken))))
 
 returns-3 : tie.Need-returns-3
 returns-3 c = search needs

@@ -87,7 +87,7 @@ returns-4 c =
     let f = m .before .before in
     let s = f .before .before in
     member-taken _ _ (s .pre .1) _ _ (sym (f .number-at .ensures) ∙ m .mark .given .1) _ _ (sym (n .number-at2 .ensures) ∙ k .kind .given .1) _ _
-    (g .take-fields .ensures ∙ ap (taken _ _ _ 0) (s .pre .0)) _ _ (t .next .given .1)
+    (g .take-fields .ensures ∙ ap (taken _ _ _ 0) (s .pre .0)) _ (t .next .given .1)
 
 pub take-member-spec : {M : Type 1} → statement M
 take-member-spec =
