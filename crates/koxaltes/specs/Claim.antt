@@ -9,7 +9,8 @@ use Rattle.member.specs.Member.{Member}
 use Rattle.reading.specs.Reading.{Reading, got}
 use Rattle.schedule.specs.Schedule.{schedule}
 use Rattle.checks.specs.Claim.{SafeLine}
-use Rattle.report.specs.Report.{answered, bufferAfter, reportOf}
+use Rattle.printed.specs.Printed.{answered, bufferAfter}
+use Rattle.report.specs.Report.{reportOf}
 use Rattle.report.specs.Claim.{SafeReport}
 use Rattle.koxaltes.specs.declared.Told.{Told}
 use Rattle.koxaltes.specs.Told.{told}

@@ -7,8 +7,8 @@ use Rattle.bars.specs.declared.Group.{Group}
 use Rattle.reading.specs.Reading.{Reading}
 use Rattle.lent.specs.declared.Lent.{Lent}
 use Rattle.lent.specs.Lent.{lentVerdict, lentMember}
-use Rattle.report.specs.declared.Answer.{Answer}
-use Rattle.report.specs.declared.Answer.the-variants.{Written, Refused}
+use Rattle.printed.specs.declared.Answer.{Answer}
+use Rattle.printed.specs.declared.Answer.the-variants.{Written, Refused}
 use Rattle.report.specs.Report.{lineOrNo}
 use Rattle.koxaltes.specs.declared.Told.{Told}
 
