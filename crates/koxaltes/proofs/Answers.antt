@@ -8,7 +8,7 @@ use Rattle.built.specs.Slots.{memberOf}
 use Rattle.lent.specs.declared.Lent.{Lent}
 use Rattle.lent.specs.Lent.{four, lentSlots, builtOf, lentMember}
 use Rattle.lent.proofs.Counts.{lent-verdict}
-use Rattle.report.specs.declared.Answer.{Answer}
+use Rattle.printed.specs.declared.Answer.{Answer}
 use Rattle.report.specs.Report.{memberReportOf}
 use Rattle.report.specs.Claim.{Reported, MemberReported}
 use Rattle.told.specs.declared.Told.{Told}

@@ -12,7 +12,8 @@ use Rattle.schedule.specs.Schedule.{schedule}
 use Rattle.checks.specs.Claim.{SafeLine}
 use Rattle.lent.specs.declared.Lent.{Lent}
 use Rattle.lent.specs.Lent.{lentVerdict, lentMember}
-use Rattle.report.specs.Report.{answered, bufferAfter, lineOrNo, reportOf}
+use Rattle.printed.specs.Printed.{answered, bufferAfter}
+use Rattle.report.specs.Report.{lineOrNo, reportOf}
 use Rattle.report.specs.Claim.{SafeReport}
 use Rattle.told.specs.declared.Told.{Told}
 use Rattle.told.specs.Told.{told}

@@ -20,11 +20,13 @@ use Rattle.reading.specs.Reading.{Reading, got, refusal}
 use Rattle.reading.specs.Reading as reading
 use Rattle.schedule.specs.Schedule.{schedule}
 use Rattle.schedule.proofs.Accepted.{schedule-accepted}
-use Rattle.report.specs.declared.Answer.{Answer}
-use Rattle.report.specs.declared.Answer.the-variants.{Written, Refused}
-use Rattle.report.specs.Report.{reportText, answered, bufferAfter, reportOf, printed}
+use Rattle.printed.specs.declared.Answer.{Answer}
+use Rattle.printed.specs.declared.Answer.the-variants.{Written, Refused}
+use Rattle.lines.specs.Lines.{reportText}
+use Rattle.printed.specs.Printed.{answered, bufferAfter}
+use Rattle.report.specs.Report.{reportOf, printed}
 use Rattle.report.specs.Claim.{Reported}
-use Rattle.report.proofs.Length.{report-short}
+use Rattle.lines.proofs.Length.{report-short}
 use Rattle.printing.specs.Printing.{refusalText, shown, outputOf, askRoom, PrintedSchedule}
 
 -- a text that fits was put

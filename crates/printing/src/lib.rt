@@ -1,7 +1,7 @@
 // What the report program prints, into a lent buffer.
 use line::put_refusal;
+use printed::Answer;
 use question::number_of;
-use report::Answer;
 use report::report;
 ghost use Rattle.printing.specs.Printing.{PrintedSchedule};
 

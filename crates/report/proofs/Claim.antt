@@ -1,19 +1,13 @@
--- A text in the buffer, and demand 3 of it.
-use Prim.Native.Nat.{ℕ, zero, suc, _<_, _≤_}
-use mathlib.Core.Path.{_≡_, refl, sym, ap, _∙_}
+-- Demand 3 of a text in the buffer, and how the survey's answer picks the case.
+use Prim.Native.Nat.{ℕ, zero, suc, _<_}
+use mathlib.Core.Path.{_≡_, refl, ap, _∙_}
 use mathlib.Core.List.{List, [], _∷_, _++_}
 use native.Mathlib.Omega.{arith}
-use native.Mathlib.Decide.{decLe}
-use borrow.Author.Tests.{le-leb, lt-leb}
-use lib.ListN.{length, getD, take, drop}
-use lib.Seq.{take-append-seam}
+use lib.ListN.{length, getD}
 use Rattle.text.specs.Text.{lineOf}
-use Rattle.text.specs.Put.{Put, lastPosition}
-use Rattle.text.proofs.Put.{fits, too-long, put-whole, learnt-length}
 use Rattle.line.specs.Line.{lineWords, headWords, lineText}
 use Rattle.line.proofs.Said.{head-said, member-said, said-alone}
 use Rattle.question.specs.declared.Question.{Question}
-use Rattle.question.specs.declared.Question.the-variants.{Buffer}
 use Rattle.question.specs.declared.Refusal.{Refusal}
 use Rattle.outcome.specs.declared.Outcome.{Outcome}
 use Rattle.number.specs.Number.{numberAt}
@@ -34,44 +28,14 @@ use Rattle.schedule.proofs.Members.{members-length}
 use Rattle.schedule.proofs.Accepted.{schedule-read, schedule-accepted}
 use Rattle.checks.specs.Outcome.{markOf, outcomeOf}
 use Rattle.checks.proofs.Safe.{line-safe}
-use Rattle.report.specs.declared.Answer.{Answer}
-use Rattle.report.specs.declared.Answer.the-variants.{Written, Refused}
-use Rattle.report.specs.Report.{reportText, memberText, Printed, reportOf, memberReportOf, AcceptedFrom, linesFrom, placeAfter}
+use Rattle.printed.specs.declared.Answer.{Answer}
+use Rattle.printed.specs.declared.Answer.the-variants.{Refused}
+use Rattle.lines.specs.Lines.{reportText, memberText, AcceptedFrom, linesFrom}
+use Rattle.printed.specs.Printed.{Printed}
+use Rattle.report.specs.Report.{reportOf, memberReportOf, placeAfter}
 use Rattle.report.specs.Claim.{SafeReport, Reported, MemberReported}
-use Rattle.report.proofs.Lines.{members-lines, report-lines, mark-of}
-
--- ---- What the two runs give.
-
--- a text that fits
-pub printed-whole : (whose : ℕ) (text d : List ℕ) {d′ : List ℕ} {r : ℕ} → length text ≤ length d → Put d 0 text d′ r → Printed whose text d d′ (Written r)
-printed-whole whose text d {r = r} short w =
-    let s = le-leb (length text) (length d) short in
-    let l : r ≡ length text = learnt-length w (omega (arith, w .short)) in
-    record { answer-is = rw s (ap Written l); buffer-is = rw s (put-whole w short) }
-
-module _ (whose : ℕ) (text d : List ℕ) (e e′ : List ℕ) (n : ℕ) (first : Put e 0 text e′ n) where
-  pub printed : {d′ : List ℕ} {r : ℕ} → length d < lastPosition → n ≤ length d → Put d 0 text d′ r → Printed whose text d d′ (Written r)
-  printed k h w = printed-whole whose text d (fits first k h) w
-
-  pub unprinted : {a : Answer} → a ≡ Refused (refusal Buffer whose) → length d < n → Printed whose text d d a
-  unprinted q h =
-      let s = lt-leb (length text) (length d) (too-long first h) in
-      record { answer-is = rw s q; buffer-is = rw s }
-
--- what was written is the text
-pub text-written : (whose : ℕ) (text d d′ : List ℕ) (a : Answer) (n : ℕ) → Printed whose text d d′ a → a ≡ Written n → take n d′ ≡ text
-text-written whose text d d′ a n p e = go (decLe (length text) (length d))
-  where
-    go : Dec (length text ≤ length d) → take n d′ ≡ text
-    go (yes h) =
-        let s = le-leb (length text) (length d) h in
-        let w : Written n ≡ Written (length text) = sym e ∙ (rw s at (p .answer-is)) in
-        let l : n ≡ length text = cc in
-        rw (l, (rw s at (p .buffer-is))) (take-append-seam text (drop (length text) d))
-    go (no h) =
-        let g : length d < length text = omega arith in
-        let w : Written n ≡ Refused (refusal Buffer whose) = sym e ∙ (rw (lt-leb (length text) (length d) g) at (p .answer-is)) in
-        absurd (let z : _≡_ {A = ℕ} 0 1 = cc in omega arith)
+use Rattle.printed.proofs.Printed.{text-written, refused-is}
+use Rattle.lines.proofs.Lines.{members-lines, report-lines, mark-of}
 
 -- ---- A schedule.
 
@@ -102,8 +66,8 @@ pub refused : (s d : List ℕ) (r : Refusal) → schedule s ≡ reading.no r →
 unfolding reportOf
 refused s d r e =
     record {
-      answer-is = rw e;
-      buffer-is = rw e;
+      answer-is = rw e (refused-is 0 r d .0);
+      buffer-is = rw e (refused-is 0 r d .1);
       claim = λ k n f w. absurd (let z : _≡_ {A = ℕ} 0 1 = cc in omega arith);
     }
 
@@ -167,4 +131,4 @@ module _ (x : Built) where
       MemberReported x d d (Refused (refusal q 1))
   unfolding memberReportOf
   member-refused d q e =
-      record { answer-is = rw e; buffer-is = rw e; claim = λ n w. absurd (let z : _≡_ {A = ℕ} 0 1 = cc in omega arith) }
+      record { answer-is = rw e (refused-is 1 (refusal q 1) d .0); buffer-is = rw e (refused-is 1 (refusal q 1) d .1); claim = λ n w. absurd (let z : _≡_ {A = ℕ} 0 1 = cc in omega arith) }

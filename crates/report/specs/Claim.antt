@@ -10,9 +10,10 @@ use Rattle.built.specs.Slots.{memberOf}
 use Rattle.reading.specs.Reading.{got}
 use Rattle.schedule.specs.Schedule.{schedule}
 use Rattle.checks.specs.Claim.{SafeLine}
-use Rattle.report.specs.declared.Answer.{Answer}
-use Rattle.report.specs.declared.Answer.the-variants.{Written}
-use Rattle.report.specs.Report.{answered, bufferAfter, reportOf, memberReportOf}
+use Rattle.printed.specs.declared.Answer.{Answer}
+use Rattle.printed.specs.declared.Answer.the-variants.{Written}
+use Rattle.printed.specs.Printed.{answered, bufferAfter}
+use Rattle.report.specs.Report.{reportOf, memberReportOf}
 
 -- Of every member of the schedule, in order: its line, read back from the text's bytes, is safe for its fields.
 -- The first line says how many members there are.

@@ -8,8 +8,8 @@ use Rattle.ratio.specs.declared.Utilization.{Utilization}
 use Rattle.governing.specs.declared.Governing.{Governing}
 use Rattle.governing.specs.declared.Governing.the-variants.{Largest, None}
 use Rattle.governing.specs.Governing.{governingOf}
-use Rattle.report.specs.declared.Answer.{Answer}
-use Rattle.report.specs.declared.Answer.the-variants.{Written, Refused}
+use Rattle.printed.specs.declared.Answer.{Answer}
+use Rattle.printed.specs.declared.Answer.the-variants.{Written, Refused}
 use Rattle.utilization.specs.declared.Answer as utilization
 use Rattle.utilization.specs.declared.Answer.the-variants as utilizations
 use Rattle.told.specs.declared.Told.{Told}

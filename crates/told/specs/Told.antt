@@ -1,7 +1,7 @@
 -- An answer as a record with a tag, for callers in C and Rust.
 use Rattle.question.specs.Question.{numberOf}
-use Rattle.report.specs.declared.Answer.{Answer}
-use Rattle.report.specs.declared.Answer.the-variants.{Written, Refused}
+use Rattle.printed.specs.declared.Answer.{Answer}
+use Rattle.printed.specs.declared.Answer.the-variants.{Written, Refused}
 use Rattle.told.specs.declared.Told.{Told}
 
 -- question 0: written, with the text's length; else the number of the question and the member (document 01, "The answer holds number and member")

@@ -4,9 +4,9 @@ ghost use Rattle.told.specs.Told.{told};
 ghost use Rattle.told.specs.Utilization.{withGoverning, refusedUtilization, utilizationTold};
 use governing::Governing;
 use governing::governing_of;
+use printed::Answer;
 use question::number_of;
 use ratio::Utilization;
-use report::Answer;
 
 // An answer: question 0 says that the text stands in the buffer's first `length` bytes; any other names the question that was answered
 // no and the member, and the buffer is as it was.

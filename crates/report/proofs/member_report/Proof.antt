@@ -2,7 +2,7 @@
 use mathlib.Core.Path.{sym, _∙_}
 use Rattle.built.proofs.Accepted.{accepted-built}
 use Rattle.report.proofs.Claim.{member-reported, printed-member, member-refused}
-use Rattle.report.proofs.Length.{line-fits}
+use Rattle.lines.proofs.Length.{line-fits}
 use borrow.Author.Needs.{needs}
 use Rattle.report.proofs.member_report.Statement.{statement}
 use Rattle.report.proofs.member_report.Tie as tie

@@ -21,7 +21,7 @@ use Rattle.schedule.specs.Schedule.{member, members}
 use Rattle.schedule.proofs.Members.{first-read, members-length}
 use Rattle.schedule.proofs.Accepted.{any-before}
 use Rattle.checks.specs.Outcome.{markOf, outcomeOf}
-use Rattle.report.specs.Report.{reportText, memberText, AcceptedThen, AcceptedFrom, linesFrom}
+use Rattle.lines.specs.Lines.{reportText, memberText, AcceptedThen, AcceptedFrom, linesFrom}
 
 -- ---- One turn.
 

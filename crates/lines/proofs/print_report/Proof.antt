@@ -1,10 +1,10 @@
--- `report::print_report` meets its contract.
+-- `lines::print_report` meets its contract.
 use native.Mathlib.Omega.{arith}
-use Rattle.report.proofs.Claim.{printed-whole}
-use Rattle.report.proofs.Length.{report-fits}
+use Rattle.printed.proofs.Printed.{printed-whole}
+use Rattle.lines.proofs.Length.{report-fits}
 use borrow.Author.Needs.{needs}
-use Rattle.report.proofs.print_report.Statement.{statement}
-use Rattle.report.proofs.print_report.Tie as tie
+use Rattle.lines.proofs.print_report.Statement.{statement}
+use Rattle.lines.proofs.print_report.Tie as tie
 
 mul-if1 : tie.Need-mul-if1
 mul-if1 c = search needs

@@ -1,9 +1,9 @@
--- `report::print_measured_line` meets its contract.
+-- `printed::print_measured_line` meets its contract.
 use native.Mathlib.Omega.{arith}
-use Rattle.report.proofs.Claim.{printed, unprinted}
+use Rattle.printed.proofs.Printed.{printed, unprinted}
 use borrow.Author.Needs.{needs}
-use Rattle.report.proofs.print_measured_line.Statement.{statement}
-use Rattle.report.proofs.print_measured_line.Tie as tie
+use Rattle.printed.proofs.print_measured_line.Statement.{statement}
+use Rattle.printed.proofs.print_measured_line.Tie as tie
 
 slice-aggregate-put-line : tie.Need-slice-aggregate-put-line
 slice-aggregate-put-line c = search needs

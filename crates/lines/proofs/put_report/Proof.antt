@@ -1,8 +1,8 @@
--- `report::put_report` meets its contract.
+-- `lines::put_report` meets its contract.
 use Rattle.text.proofs.Put.{put-then}
 use borrow.Author.Needs.{needs}
-use Rattle.report.proofs.put_report.Statement.{statement}
-use Rattle.report.proofs.put_report.Tie as tie
+use Rattle.lines.proofs.put_report.Statement.{statement}
+use Rattle.lines.proofs.put_report.Tie as tie
 
 put-head-requires : tie.Need-put-head-requires
 put-head-requires c κs = search needs

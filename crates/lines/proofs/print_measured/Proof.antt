@@ -1,9 +1,9 @@
--- `report::print_measured` meets its contract.
+-- `lines::print_measured` meets its contract.
 use native.Mathlib.Omega.{arith}
-use Rattle.report.proofs.Claim.{printed, unprinted}
+use Rattle.printed.proofs.Printed.{printed, unprinted}
 use borrow.Author.Needs.{needs}
-use Rattle.report.proofs.print_measured.Statement.{statement}
-use Rattle.report.proofs.print_measured.Tie as tie
+use Rattle.lines.proofs.print_measured.Statement.{statement}
+use Rattle.lines.proofs.print_measured.Tie as tie
 
 slice-aggregate-put-report : tie.Need-slice-aggregate-put-report
 slice-aggregate-put-report c = search needs

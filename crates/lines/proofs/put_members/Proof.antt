@@ -1,4 +1,4 @@
--- `report::put_members` meets its contract. The loop's invariant: whoever puts the lines that are left puts all of them from the start.
+-- `lines::put_members` meets its contract. The loop's invariant: whoever puts the lines that are left puts all of them from the start.
 use Prim.Native.Nat.{ℕ, _≤_}
 use mathlib.Core.Path.{_≡_, refl, _∙_}
 use mathlib.Core.List.{List}
@@ -9,10 +9,10 @@ use Rattle.text.specs.Put.{Put, lastPosition}
 use Rattle.text.proofs.Put.{put-none, put-then, put-length, put-bounds}
 use Rattle.schedule.specs.Result.{headed}
 use Rattle.schedule.proofs.Accepted.{member-was}
-use Rattle.report.specs.Report.{AcceptedFrom, linesFrom}
-use Rattle.report.proofs.Lines.{lines-none, first-accepted, others-accepted, lines-more, put-member}
-use Rattle.report.proofs.put_members.Statement.{statement}
-use Rattle.report.proofs.put_members.Tie as tie
+use Rattle.lines.specs.Lines.{AcceptedFrom, linesFrom}
+use Rattle.lines.proofs.Lines.{lines-none, first-accepted, others-accepted, lines-more, put-member}
+use Rattle.lines.proofs.put_members.Statement.{statement}
+use Rattle.lines.proofs.put_members.Tie as tie
 
 abbrev Inv-loop : tie.InvT-loop
 Inv-loop src at count out₀ to p₀ left₀ q₀ out p left q =

@@ -21,8 +21,8 @@ use Rattle.schedule.specs.Schedule.{member}
 use Rattle.schedule.proofs.Accepted.{member-was}
 use Rattle.checks.specs.Outcome.{markOf, outcomeOf}
 use Rattle.checks.proofs.Figures.{member-short}
-use Rattle.report.specs.Report.{reportText, memberText, linesFrom, withMember}
-use Rattle.report.proofs.Lines.{mark-of}
+use Rattle.lines.specs.Lines.{reportText, memberText, linesFrom, withMember}
+use Rattle.lines.proofs.Lines.{mark-of}
 
 mark-short : (m : Member) → AcceptedMember m → markOf m < 10 ^ 6
 mark-short (beam mark x) a = omega (arith, a .0 .1)

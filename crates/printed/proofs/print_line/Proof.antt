@@ -1,9 +1,9 @@
--- `report::print_line` meets its contract.
+-- `printed::print_line` meets its contract.
 use native.Mathlib.Nat.{le-trans}
-use Rattle.report.proofs.Claim.{printed-whole}
+use Rattle.printed.proofs.Printed.{printed-whole}
 use borrow.Author.Needs.{needs}
-use Rattle.report.proofs.print_line.Statement.{statement}
-use Rattle.report.proofs.print_line.Tie as tie
+use Rattle.printed.proofs.print_line.Statement.{statement}
+use Rattle.printed.proofs.print_line.Tie as tie
 
 put-line-requires : tie.Need-put-line-requires
 put-line-requires c κs = search needs
