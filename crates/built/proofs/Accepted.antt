@@ -29,7 +29,8 @@ use Rattle.reinforcement.proofs.Reinforcement.{few-bars, ratio, column-few-bars
 use Rattle.domain.specs.declared.Domain.{Domain}
 use Rattle.domain.specs.declared.Domain.the-variants.{Range, ZeroOr, Bar, Grade, Steel, LinkSteel, GroupDiameter, GroupBars}
 use Rattle.domain.specs.Domain.{between, bar, holds, asked, fieldHolds}
-use Rattle.field.specs.Fields.{groups, beamFields, columnFields, meshFields, fieldsOf, fieldsHold, known}
+use Rattle.field.specs.Fields.{groups, beamFields, columnFields, meshFields, fieldsOf, known}
+use Rattle.slots.specs.Slots.{fieldsHold}
 use Rattle.domain.proofs.Between.{in-between}
 use Rattle.built.specs.declared.Verdict.{Verdict}
 use Rattle.built.specs.declared.Verdict.the-variants.{Accepted}

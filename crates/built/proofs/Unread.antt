@@ -13,7 +13,8 @@ use Rattle.bars.specs.declared.Group.{Group}
 use Rattle.domain.specs.declared.Domain.{Domain}
 use Rattle.domain.specs.declared.Domain.the-variants.{Range, ZeroOr, Bar, Grade, Steel, LinkSteel, GroupDiameter, GroupBars}
 use Rattle.domain.specs.Domain.{holds, asked, fieldHolds}
-use Rattle.field.specs.Fields.{groups, kinds, beamFields, columnFields, meshFields, fieldsOf, fieldsHold, known}
+use Rattle.field.specs.Fields.{groups, kinds, beamFields, columnFields, meshFields, fieldsOf, known}
+use Rattle.slots.specs.Slots.{fieldsHold}
 use Rattle.member.specs.Member.{beam, column, mesh}
 use Rattle.standard.proofs.Table.{every, every-at, and-left, and-right}
 use Rattle.question.specs.declared.Question.the-variants.{Mark, Kind, Field}

@@ -11,7 +11,8 @@ use Rattle.member.specs.Member.{Beam, Column, Mesh}
 use Rattle.relation.specs.Relation.{beamRelation, columnRelation, meshRelation}
 use Rattle.reinforcement.specs.Reinforcement.{beamBars, beamRatio, columnBars}
 use Rattle.domain.specs.Domain.{between}
-use Rattle.field.specs.Fields.{fieldsOf, fieldsHold, known}
+use Rattle.field.specs.Fields.{fieldsOf, known}
+use Rattle.slots.specs.Slots.{fieldsHold}
 use Rattle.built.specs.declared.Verdict.{Verdict}
 use Rattle.built.specs.declared.Verdict.the-variants.{Accepted, Refused}
 use Rattle.built.specs.Slots.{beamAt, columnAt, meshAt}

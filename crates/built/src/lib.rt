@@ -5,13 +5,12 @@ ghost use Prim.Native.Nat.{_+_, _<_};
 ghost use mathlib.Core.List.{[], _∷_};
 ghost use lib.ListN.{getD};
 ghost use Rattle.member.specs.Member.{beamOf, columnOf, meshOf};
-ghost use Rattle.field.specs.Fields.{fieldsOf, fieldsHold, known};
+ghost use Rattle.field.specs.Fields.{fieldsOf, known};
+ghost use Rattle.slots.specs.Slots.{fieldsHold};
 ghost use Rattle.built.specs.Slots.{group, beamAt, columnAt, meshAt};
 ghost use Rattle.built.specs.Verdict.{beamVerdict, columnVerdict, meshVerdict, memberVerdict, markInRange, builtVerdict};
 use bars::Group;
 use domain::is_between;
-use field::Slots;
-use field::fields_hold;
 use field::is_known;
 use member::Beam;
 use member::Column;
@@ -26,6 +25,8 @@ use reinforcement::column_bars;
 use relation::beam_relation;
 use relation::column_relation;
 use relation::mesh_relation;
+use slots::Slots;
+use slots::fields_hold;
 
 // A member that a caller builds.
 pub struct Built {

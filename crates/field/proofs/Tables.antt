@@ -1,9 +1,8 @@
--- What is known of a kind, a table's fields by slot, and question 7 of tables one after the other.
+-- What is known of a kind, and a table's fields by slot.
 use Prim.Native.Nat.{ℕ, zero, suc, _+_, _-_, _≤_, _<_}
 use mathlib.Core.Path.{_≡_, sym, ap, _∙_}
-use mathlib.Core.Bool.{Bool, true, _&&_, and-true, and-assoc}
+use mathlib.Core.Bool.{Bool, true}
 use mathlib.Core.List.{List, [], _∷_, _++_}
-use native.Mathlib.Nat.{add-zero}
 use native.Mathlib.Numerals.{add-one}
 use native.Mathlib.Omega.{arith}
 use lib.Dec.{leb, leb→le}
@@ -12,8 +11,7 @@ use lib.Seq.{drop-cons, getD-append-add}
 use Rattle.standard.proofs.Table.{every-at}
 use Rattle.domain.specs.declared.Domain.{Domain}
 use Rattle.domain.specs.declared.Domain.the-variants.{Grade}
-use Rattle.domain.specs.Domain.{fieldHolds}
-use Rattle.field.specs.Fields.{kinds, fieldsOf, known, fieldsHold}
+use Rattle.field.specs.Fields.{kinds, fieldsOf, known}
 use Rattle.domain.proofs.Between.{in-between}
 
 -- ---- A kind.
@@ -62,27 +60,3 @@ in-middle xs ys zs i l h =
     let e : length xs + (i - length xs) ≡ i = omega arith in
     sym (List·getD-append ys zs Grade (i - length xs) (omega arith)) ∙ sym (getD-append-add xs (ys ++ zs) (i - length xs) Grade)
     ∙ ap (λ (n : ℕ). getD (xs ++ (ys ++ zs)) n Grade) e
-
--- ---- Question 7, as the code joins its parts.
-
-holds-append : (xs ys : List Domain) (i : ℕ) (v : List ℕ) → fieldsHold (xs ++ ys) i v ≡ (fieldsHold xs i v && fieldsHold ys (i + length xs) v)
-holds-append [] ys i v = rw (add-zero i)
-holds-append (x ∷ xs) ys i v =
-    let e : i + 1 + length xs ≡ i + length (x ∷ xs) = omega arith in
-    rw (holds-append xs ys (i + 1) v, e, and-assoc)
-
-joined : {a b s t r : Bool} → s ≡ a → t ≡ b → r ≡ (s && t) → r ≡ (a && b)
-joined e f g = g ∙ rw (e, f)
-
--- a run of fields, and those after it
-pub run-then : (xs ys : List Domain) (i : ℕ) (v : List ℕ) {s t r : Bool} → s ≡ fieldsHold xs i v → t ≡ fieldsHold ys (i + length xs) v → r ≡ (s && t)
-    → r ≡ fieldsHold (xs ++ ys) i v
-run-then xs ys i v e f g = joined e f g ∙ sym (holds-append xs ys i v)
-
--- one field, and what those after it come to; the last
-module _ {d x : Domain} {s : Bool} (i : ℕ) (v : List ℕ) (is : d ≡ x) (e : s ≡ fieldHolds d i v) where
-  pub slot-then : {t b r : Bool} → t ≡ b → r ≡ (s && t) → r ≡ (fieldHolds x i v && b)
-  slot-then f g = joined (rw is at e) f g
-
-  pub slot-last : s ≡ (fieldHolds x i v && true)
-  slot-last = rw and-true (rw is at e)

@@ -1,12 +1,12 @@
 -- The fields of each kind, in the order of document 01, "Schedule bytes".
 -- Field i of a member stands in slot i.
-use Prim.Native.Nat.{ℕ, _+_}
-use mathlib.Core.Bool.{Bool, true, _&&_}
+use Prim.Native.Nat.{ℕ}
+use mathlib.Core.Bool.{Bool}
 use mathlib.Core.List.{List, [], _∷_, _++_}
 use lib.ListN.{getD}
 use Rattle.domain.specs.declared.Domain.{Domain}
 use Rattle.domain.specs.declared.Domain.the-variants.{Range, ZeroOr, Bar, Grade, Steel, LinkSteel, GroupDiameter, GroupBars}
-use Rattle.domain.specs.Domain.{between, fieldHolds}
+use Rattle.domain.specs.Domain.{between}
 
 -- the groups of a list whose count stands in slot k: diameter and number of bars of each
 abbrev pub groups : ℕ → List Domain
@@ -71,8 +71,3 @@ fieldsOf kind = getD kinds kind []
 -- Question 6.
 unfoldable pub known : ℕ → Bool
 known kind = between 1 3 kind
-
--- Question 7 of the fields in the slots from i on.
-abbrev pub fieldsHold : List Domain → ℕ → List ℕ → Bool
-fieldsHold [] i v = true
-fieldsHold (d ∷ ds) i v = fieldHolds d i v && fieldsHold ds (i + 1) v

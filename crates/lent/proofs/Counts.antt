@@ -14,7 +14,8 @@ use Rattle.bars.specs.Accepted.{AcceptedGroup, AcceptedGroups}
 use Rattle.domain.specs.declared.Domain.{Domain}
 use Rattle.domain.specs.declared.Domain.the-variants.{Range}
 use Rattle.domain.specs.Domain.{holds, asked, fieldHolds}
-use Rattle.field.specs.Fields.{beamFields, columnFields, fieldsOf, fieldsHold, known}
+use Rattle.field.specs.Fields.{beamFields, columnFields, fieldsOf, known}
+use Rattle.slots.specs.Slots.{fieldsHold}
 use Rattle.domain.proofs.Between.{in-between}
 use Rattle.built.specs.declared.Verdict.{Verdict}
 use Rattle.built.specs.Slots.{slot, beamAt, columnAt}

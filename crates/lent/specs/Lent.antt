@@ -8,7 +8,8 @@ use Rattle.quantity.specs.Choice.{if_then_else_}
 use Rattle.question.specs.declared.Question.the-variants.{Mark, Kind, Field}
 use Rattle.bars.specs.declared.Group.{Group}
 use Rattle.member.specs.Member.{Member}
-use Rattle.field.specs.Fields.{fieldsOf, fieldsHold, known}
+use Rattle.field.specs.Fields.{fieldsOf, known}
+use Rattle.slots.specs.Slots.{fieldsHold}
 use Rattle.built.specs.declared.Built.{Built}
 use Rattle.built.specs.declared.Verdict.{Verdict}
 use Rattle.built.specs.Slots.{slot, memberAt}

@@ -10,7 +10,7 @@ use bars::Group;
 use bars::Totals;
 use bars::totals_of;
 use built::Built;
-use field::Slots;
+use slots::Slots;
 
 // The fields of a kind in the order of a schedule, without the groups: 21 of a beam, 9 of a column, 11 of a mesh. Those past them are not read.
 #[repr(C)]

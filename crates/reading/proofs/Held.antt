@@ -17,7 +17,8 @@ use Rattle.number.specs.Number.{numberAt}
 use Rattle.domain.specs.declared.Domain.{Domain}
 use Rattle.domain.specs.declared.Domain.the-variants.{Range, ZeroOr, Bar, Grade, Steel, LinkSteel, GroupDiameter, GroupBars}
 use Rattle.domain.specs.Domain.{asked, holds, fieldHolds}
-use Rattle.field.specs.Fields.{kinds, fieldsOf, fieldsHold, known}
+use Rattle.field.specs.Fields.{kinds, fieldsOf, known}
+use Rattle.slots.specs.Slots.{fieldsHold}
 use Rattle.field.proofs.Tables.{known-below, fields-fit}
 use Rattle.reading.specs.Reading.{Reading, got, no, Placed, placed, andThen}
 use Rattle.reading.specs.Fields.{empty, field, fields}

@@ -18,7 +18,8 @@ use Rattle.number.specs.Number.{numberAt}
 use Rattle.domain.specs.declared.Domain.{Domain}
 use Rattle.domain.specs.declared.Domain.the-variants.{Range, ZeroOr, Bar, Grade, Steel, LinkSteel, GroupDiameter, GroupBars}
 use Rattle.domain.specs.Domain.{asked, holds, fieldHolds}
-use Rattle.field.specs.Fields.{groups, beamFields, columnFields, meshFields, fieldsOf, fieldsHold, known}
+use Rattle.field.specs.Fields.{groups, beamFields, columnFields, meshFields, fieldsOf, known}
+use Rattle.slots.specs.Slots.{fieldsHold}
 use Rattle.field.proofs.Tables.{fields-fit}
 use Rattle.reading.specs.declared.Took.{Took}
 use Rattle.reading.specs.declared.Took.the-variants.{To}

@@ -12,12 +12,12 @@ use built::Verdict;
 use domain::Domain;
 use domain::domain_asked;
 use domain::domain_holds;
-use field::Slots;
 use field::field_count;
 use field::field_of;
 use number::Number;
 use number::number_at;
 use question::Question;
+use slots::Slots;
 
 // Fields read so far: refused, or the slots and the place after the last field.
 pub struct Run {

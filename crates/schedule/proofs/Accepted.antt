@@ -15,7 +15,8 @@ use Rattle.number.specs.Number.{numberAt}
 use Rattle.member.specs.Member.{Member}
 use Rattle.member.specs.Accepted.{AcceptedMember, AcceptedMembers}
 use Rattle.quantity.proofs.Choice.{both-true}
-use Rattle.field.specs.Fields.{fieldsOf, fieldsHold, known}
+use Rattle.field.specs.Fields.{fieldsOf, known}
+use Rattle.slots.specs.Slots.{fieldsHold}
 use Rattle.domain.proofs.Between.{in-between}
 use Rattle.built.specs.declared.Built.{Built}
 use Rattle.built.specs.declared.Verdict.{Verdict}

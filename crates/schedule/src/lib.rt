@@ -10,7 +10,6 @@ ghost use Rattle.schedule.specs.Result.{readOf, marked, headed, endsOf, 
 use built::Verdict;
 use built::mark_in_range;
 use built::member_verdict;
-use field::fields_hold;
 use field::is_known;
 use number::Number;
 use number::number_at;
@@ -20,6 +19,7 @@ use question::Refusal;
 use reading::Took;
 use reading::read_fields;
 use reading::take_fields;
+use slots::fields_hold;
 
 // A member read: refused, or its mark and the place after it.
 pub struct MemberRead {

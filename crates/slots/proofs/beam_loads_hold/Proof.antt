@@ -1,19 +1,23 @@
--- `field::beam_section_holds` meets its contract.
-use Rattle.field.proofs.Tables.{slot-then, slot-last}
+-- `slots::beam_loads_hold` meets its contract.
+use Rattle.slots.proofs.Joined.{slot-then, slot-last}
 use borrow.Author.Needs.{needs}
-use Rattle.field.proofs.beam_section_holds.Statement.{statement}
-use Rattle.field.proofs.beam_section_holds.Tie as tie
+use Rattle.slots.proofs.beam_loads_hold.Statement.{statement}
+use Rattle.slots.proofs.beam_loads_hold.Tie as tie
 
 returns : tie.Need-returns
 returns c =
-    let b7 = c .before in
+    let b9 = c .before in
+    let b8 = b9 .before in
+    let b7 = b8 .before in
     let b6 = b7 .before in
     let b5 = b6 .before in
     let b4 = b5 .before in
     let b3 = b4 .before in
     let b2 = b3 .before in
     let b1 = b2 .before in
-    let s9 = b1 .before in
+    let s11 = b1 .before in
+    let s10 = s11 .before .before in
+    let s9 = s10 .before .before in
     let s8 = s9 .before .before in
     let s7 = s8 .before .before in
     let s6 = s7 .before .before in
@@ -30,12 +34,20 @@ returns c =
     (slot-then _ _ (s6 .before .beam-field6 .ensures) (s6 .slot-holds6 .ensures)
     (slot-then _ _ (s7 .before .beam-field7 .ensures) (s7 .slot-holds7 .ensures)
     (slot-then _ _ (s8 .before .beam-field8 .ensures) (s8 .slot-holds8 .ensures)
-    (slot-last _ _ (s9 .before .beam-field9 .ensures) (s9 .slot-holds9 .ensures)) (b1 .both .ensures)) (b2 .both2 .ensures)) (b3 .both3 .ensures)) (b4 .both4 .ensures)) (b5 .both5 .ensures)) (b6 .both6 .ensures)) (b7 .both7 .ensures)) (c .both8 .ensures)
+    (slot-then _ _ (s9 .before .beam-field9 .ensures) (s9 .slot-holds9 .ensures)
+    (slot-then _ _ (s10 .before .beam-field10 .ensures) (s10 .slot-holds10 .ensures)
+    (slot-last _ _ (s11 .before .beam-field11 .ensures) (s11 .slot-holds11 .ensures)) (b1 .both .ensures)) (b2 .both2 .ensures)) (b3 .both3 .ensures)) (b4 .both4 .ensures)) (b5 .both5 .ensures)) (b6 .both6 .ensures)) (b7 .both7 .ensures)) (b8 .both8 .ensures)) (b9 .both9 .ensures)) (c .both10 .ensures)
 
-pub beam-section-holds-spec : {M : Type 1} → statement M
-beam-section-holds-spec =
+pub beam-loads-hold-spec : {M : Type 1} → statement M
+beam-loads-hold-spec =
     tie.close
     (tie.spec
+    (λ c κs. search needs)
+    (λ c κs. search needs)
+    (λ c κs. search needs)
+    (λ c κs. search needs)
+    (λ c κs. search needs)
+    (λ c κs. search needs)
     (λ c κs. search needs)
     (λ c κs. search needs)
     (λ c κs. search needs)

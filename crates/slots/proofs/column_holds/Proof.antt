@@ -1,10 +1,10 @@
--- `field::column_holds` meets its contract.
+-- `slots::column_holds` meets its contract.
 use lib.ListN.{drop}
 use Rattle.field.specs.Fields.{groups, columnFields}
-use Rattle.field.proofs.Tables.{slot-then, slot-last, run-then}
+use Rattle.slots.proofs.Joined.{slot-then, slot-last, run-then}
 use borrow.Author.Needs.{needs}
-use Rattle.field.proofs.column_holds.Statement.{statement}
-use Rattle.field.proofs.column_holds.Tie as tie
+use Rattle.slots.proofs.column_holds.Statement.{statement}
+use Rattle.slots.proofs.column_holds.Tie as tie
 
 returns : tie.Need-returns
 returns c =

@@ -1,4 +1,4 @@
--- `field::list_holds` meets its contract.
+-- `slots::list_holds` meets its contract.
 use Prim.Native.Nat.{ℕ, _+_}
 use mathlib.Core.Path.{_≡_, _∙_}
 use mathlib.Core.Bool.{true, _&&_}
@@ -6,11 +6,12 @@ use mathlib.Core.List.{List}
 use native.Mathlib.Nat.{add-assoc}
 use Rattle.domain.specs.declared.Domain.the-variants.{GroupDiameter, GroupBars}
 use Rattle.domain.specs.Domain.{fieldHolds}
-use Rattle.field.specs.Fields.{groups, fieldsHold}
-use Rattle.field.proofs.Tables.{slot-then, slot-last}
+use Rattle.field.specs.Fields.{groups}
+use Rattle.slots.specs.Slots.{fieldsHold}
+use Rattle.slots.proofs.Joined.{slot-then, slot-last}
 use borrow.Author.Needs.{needs}
-use Rattle.field.proofs.list_holds.Statement.{statement}
-use Rattle.field.proofs.list_holds.Tie as tie
+use Rattle.slots.proofs.list_holds.Statement.{statement}
+use Rattle.slots.proofs.list_holds.Tie as tie
 
 -- the slots as the code counts them
 in-order : (k i : ℕ) (v : List ℕ)

@@ -1,10 +1,10 @@
--- `field::beam_holds` meets its contract.
+-- `slots::beam_holds` meets its contract.
 use lib.ListN.{take, drop}
 use Rattle.field.specs.Fields.{groups, beamFields}
-use Rattle.field.proofs.Tables.{slot-then, run-then}
+use Rattle.slots.proofs.Joined.{slot-then, run-then}
 use borrow.Author.Needs.{needs}
-use Rattle.field.proofs.beam_holds.Statement.{statement}
-use Rattle.field.proofs.beam_holds.Tie as tie
+use Rattle.slots.proofs.beam_holds.Statement.{statement}
+use Rattle.slots.proofs.beam_holds.Tie as tie
 
 beam-section-holds-requires : tie.Need-beam-section-holds-requires
 beam-section-holds-requires c κs = search needs

@@ -1,9 +1,9 @@
--- `field::fields_hold` meets its contract.
+-- `slots::fields_hold` meets its contract.
 use borrow.Author.Needs.{needs}
 use Rattle.field.specs.Fields.{fieldsOf}
 use Rattle.field.proofs.Tables.{known-mesh}
-use Rattle.field.proofs.fields_hold.Statement.{statement}
-use Rattle.field.proofs.fields_hold.Tie as tie
+use Rattle.slots.proofs.fields_hold.Statement.{statement}
+use Rattle.slots.proofs.fields_hold.Tie as tie
 
 beam-holds-requires : tie.Need-beam-holds-requires
 beam-holds-requires c κs = search needs
