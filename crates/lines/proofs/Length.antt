@@ -17,8 +17,8 @@ use Rattle.built.specs.Verdict.{builtVerdict}
 use Rattle.built.proofs.Accepted.{accepted-built}
 use Rattle.outcome.specs.declared.Outcome.{Outcome}
 use Rattle.reading.specs.Reading.{Reading, Placed, got, no}
-use Rattle.schedule.specs.Schedule.{member}
-use Rattle.schedule.proofs.Accepted.{member-was}
+use Rattle.members.specs.Members.{member}
+use Rattle.members.proofs.Accepted.{member-was}
 use Rattle.checks.specs.Outcome.{markOf, outcomeOf}
 use Rattle.checks.proofs.Figures.{member-short}
 use Rattle.lines.specs.Lines.{reportText, memberText, linesFrom, withMember}

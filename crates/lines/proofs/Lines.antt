@@ -17,9 +17,9 @@ use Rattle.member.specs.Member.{Member, beam, column, mesh}
 use Rattle.built.specs.declared.Built.{Built}
 use Rattle.built.specs.Slots.{memberAt, memberOf, beamAt, columnAt, meshAt}
 use Rattle.reading.specs.Reading.{Reading, got, no, placed, Placed, Got}
-use Rattle.schedule.specs.Schedule.{member, members}
-use Rattle.schedule.proofs.Members.{first-read, members-length}
-use Rattle.schedule.proofs.Accepted.{any-before}
+use Rattle.members.specs.Members.{member, members}
+use Rattle.members.proofs.Members.{first-read, members-length}
+use Rattle.members.proofs.Accepted.{any-before}
 use Rattle.checks.specs.Outcome.{markOf, outcomeOf}
 use Rattle.lines.specs.Lines.{reportText, memberText, AcceptedThen, AcceptedFrom, linesFrom}
 

@@ -8,7 +8,7 @@ use Rattle.member.specs.Member.{Member}
 use Rattle.built.specs.declared.Built.{Built}
 use Rattle.built.specs.Slots.{memberOf}
 use Rattle.reading.specs.Reading.{Reading, got, no, Placed}
-use Rattle.schedule.specs.Schedule.{member}
+use Rattle.members.specs.Members.{member}
 use Rattle.checks.specs.Outcome.{markOf, outcomeOf}
 
 -- the report's text: `members n`, then a line for each member

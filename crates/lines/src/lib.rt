@@ -7,9 +7,9 @@ ghost use Rattle.lines.specs.Lines.{AcceptedFrom, linesFrom};
 use checks::check_member;
 use line::put_head;
 use line::put_line;
+use members::take_member;
 use printed::Answer;
 use printed::no_room;
-use schedule::take_member;
 
 // The lines of `count` accepted members from `at` on, into the buffer from `to` on: the place after them.
 fn put_members(src: &[u8], at: usize, count: u32, out: &mut [u8], to: usize) -> usize

@@ -22,9 +22,9 @@ use Rattle.built.proofs.Accepted.{accepted-built}
 use Rattle.reading.specs.Reading.{Reading, got, refusal}
 use Rattle.reading.specs.Reading as reading
 use Rattle.schedule.specs.Schedule.{schedule}
-use Rattle.schedule.specs.Result.{answerOf}
+use Rattle.schedule.specs.Schedule.{answerOf}
 use Rattle.schedule.specs.declared.Answer.the-variants as surveyed
-use Rattle.schedule.proofs.Members.{members-length}
+use Rattle.members.proofs.Members.{members-length}
 use Rattle.schedule.proofs.Accepted.{schedule-read, schedule-accepted}
 use Rattle.checks.specs.Outcome.{markOf, outcomeOf}
 use Rattle.checks.proofs.Safe.{line-safe}

@@ -14,9 +14,10 @@ use Rattle.number.specs.Number.{numberAt}
 use Rattle.member.specs.Member.{Member}
 use Rattle.schedule.specs.declared.Answer.the-variants as answers
 use Rattle.reading.specs.Reading.{Reading, got, no, Placed, andThen, ask, refusal}
-use Rattle.schedule.specs.Schedule.{members, schedule}
-use Rattle.schedule.specs.Result.{placeAfter, answerOf}
-use Rattle.schedule.proofs.Members.{members-length}
+use Rattle.members.specs.Members.{members}
+use Rattle.schedule.specs.Schedule.{schedule, answerOf}
+use Rattle.members.specs.Result.{placeAfter}
+use Rattle.members.proofs.Members.{members-length}
 
 module _ (s : List ℕ) where
   pub too-long : 60000 < length s → answerOf (schedule s) ≡ answers.Refused (refusal Size 0)

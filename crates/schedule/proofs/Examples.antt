@@ -16,7 +16,8 @@ use Rattle.built.specs.Slots.{beamAt, columnAt, meshAt, memberAt}
 use Rattle.built.specs.Verdict.{beamVerdict, columnVerdict, meshVerdict, memberVerdict, markInRange}
 use Rattle.reading.specs.Reading.{got, no, refusal}
 use Rattle.reading.specs.Fields.{field, fields}
-use Rattle.schedule.specs.Schedule.{whole, markRises, markAt, kindAt, member, members, schedule}
+use Rattle.members.specs.Members.{whole, markRises, markAt, kindAt, member, members}
+use Rattle.schedule.specs.Schedule.{schedule}
 
 -- a file that is refused, with its question and member
 abbrev Refuses : List ℕ → Question → ℕ → Type 0

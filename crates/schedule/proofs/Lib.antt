@@ -1,4 +1,3 @@
-pub mod Members
 pub mod Answers
 pub mod Accepted
 pub mod Examples

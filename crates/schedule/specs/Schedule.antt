@@ -1,52 +1,17 @@
--- The schedule that bytes define, or the first question answered no, with its member.
+-- The schedule that bytes define, or the first question answered no, with its member; and the answer.
 -- (document 01, "Schedule bytes" and "Questions before any check")
-use Prim.Native.Nat.{ℕ, zero, suc, _+_}
-use mathlib.Core.Bool.{Bool, _&&_}
-use mathlib.Core.List.{List, [], _∷_}
-use lib.Dec.{leb, ltb}
+use Prim.Native.Nat.{ℕ}
+use mathlib.Core.List.{List}
+use lib.Dec.{leb}
 use lib.ListN.{length}
-use Rattle.question.specs.declared.Question.{Question}
-use Rattle.question.specs.declared.Question.the-variants.{Size, Count, Mark, Kind, Trailing}
+use Rattle.question.specs.declared.Question.the-variants.{Size, Count, Trailing}
 use Rattle.question.specs.declared.Refusal.{Refusal}
 use Rattle.member.specs.Member.{Member}
-use Rattle.field.specs.Fields.{fieldsOf, known}
-use Rattle.built.specs.declared.Built.{Built}
-use Rattle.built.specs.Slots.{memberOf}
-use Rattle.built.specs.Verdict.{markInRange, memberVerdict}
-use Rattle.reading.specs.Reading.{Reading, got, Placed, placed, andThen, ask, passed, refusal, named}
-use Rattle.reading.specs.Fields.{checked, fields, empty}
-
--- the member with this mark and kind, whose fields stand from p on: 7, then 8 to 10
-unfoldable pub whole : ℕ → ℕ → List ℕ → ℕ → Reading Question (Placed Built)
-whole mark kind s p =
-    andThen (fields (fieldsOf kind) s p 0 empty) (λ f.
-    passed (memberVerdict kind (f .value)) (got (placed (record { mark = mark; kind = kind; fields = record { v = f .value } }) (f .next))))
-
--- 5: in range, and above the mark before
-unfoldable pub markRises : ℕ → ℕ → Bool
-markRises before mark = markInRange mark && ltb before mark
-
--- the mark at p; the kind at p
-unfoldable pub markAt : List ℕ → ℕ → ℕ → Reading Question (Placed ℕ)
-markAt s p before = checked Mark (markRises before) s p
-
-unfoldable pub kindAt : List ℕ → ℕ → Reading Question (Placed ℕ)
-kindAt s p = checked Kind known s p
-
--- the member at p: 5, 6, then the rest
-unfoldable pub member : List ℕ → ℕ → ℕ → Reading Question (Placed Built)
-member s p before =
-    andThen (markAt s p before) (λ m.
-    andThen (kindAt s (m .next)) (λ k.
-    whole (m .value) (k .value) s (k .next)))
-
--- n members from p on, the first of them the i-th of the schedule
-unfoldable pub members : ℕ → List ℕ → ℕ → ℕ → ℕ → Reading Refusal (Placed (List Member))
-members zero s p before i = got (placed [] p)
-members (suc n) s p before i =
-    andThen (named i (member s p before)) (λ m.
-    andThen (members n s (m .next) (m .value .mark) (i + 1)) (λ ms.
-    got (placed (memberOf (m .value) ∷ ms .value) (ms .next))))
+use Rattle.reading.specs.Reading.{Reading, got, no, andThen, ask, refusal, named}
+use Rattle.reading.specs.Fields.{checked}
+use Rattle.members.specs.Members.{members}
+use Rattle.schedule.specs.declared.Answer.{Answer}
+use Rattle.schedule.specs.declared.Answer.the-variants.{Accepted, Refused}
 
 -- the whole: 1, the count (2, 3, 4), the members, 11
 unfoldable pub schedule : List ℕ → Reading Refusal (List Member)
@@ -56,3 +21,8 @@ schedule s =
     andThen (members (n .value) s (n .next) 0 1) (λ ms.
     ask (refusal Trailing 0) (leb (length s) (ms .next))
     (got (ms .value)))))
+
+-- the number of members, or the refusal
+abbrev pub answerOf : Reading Refusal (List Member) → Answer
+answerOf (got ms) = Accepted (length ms)
+answerOf (no r) = Refused r

@@ -7,8 +7,8 @@ use borrow.Author.Needs.{needs}
 use lib.ListN.{length}
 use Rattle.text.specs.Put.{Put, lastPosition}
 use Rattle.text.proofs.Put.{put-none, put-then, put-length, put-bounds}
-use Rattle.schedule.specs.Result.{headed}
-use Rattle.schedule.proofs.Accepted.{member-was}
+use Rattle.members.specs.Result.{headed}
+use Rattle.members.proofs.Accepted.{member-was}
 use Rattle.lines.specs.Lines.{AcceptedFrom, linesFrom}
 use Rattle.lines.proofs.Lines.{lines-none, first-accepted, others-accepted, lines-more, put-member}
 use Rattle.lines.proofs.put_members.Statement.{statement}

@@ -1,6 +1,6 @@
 -- `schedule::survey` meets its contract.
 use mathlib.Core.Path.{sym, ap, _∙_}
-use Rattle.schedule.specs.Result.{endsOf}
+use Rattle.members.specs.Result.{endsOf}
 use Rattle.schedule.proofs.Answers.{too-long, no-count, too-many, member-no, bytes-left, all-read}
 use borrow.Author.Needs.{needs}
 use Rattle.schedule.proofs.survey.Statement.{statement}

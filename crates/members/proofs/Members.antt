@@ -17,11 +17,11 @@ use Rattle.built.specs.declared.Verdict.{Verdict}
 use Rattle.built.specs.declared.Verdict.the-variants as verdicts
 use Rattle.built.specs.Slots.{memberOf}
 use Rattle.built.specs.Verdict.{memberVerdict}
-use Rattle.schedule.specs.declared.MemberRead.{MemberRead}
+use Rattle.members.specs.declared.MemberRead.{MemberRead}
 use Rattle.reading.specs.Reading.{Reading, got, no, Placed, placed, andThen, ofNumber, passed, refusal, named}
 use Rattle.reading.specs.Fields.{empty, fields}
-use Rattle.schedule.specs.Schedule.{whole, markAt, kindAt, member, members}
-use Rattle.schedule.specs.Result.{readOf, marked, placeAfter}
+use Rattle.members.specs.Members.{whole, markAt, kindAt, member, members}
+use Rattle.members.specs.Result.{readOf, marked, placeAfter}
 use Rattle.reading.proofs.Checked.{passes}
 
 -- ---- A member.

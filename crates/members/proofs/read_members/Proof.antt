@@ -1,12 +1,12 @@
--- `schedule::read_members` meets its contract.
+-- `members::read_members` meets its contract.
 use Prim.Native.Nat.{_+_, _-_, _≤_}
 use mathlib.Core.Path.{_≡_, refl, sym, ap, _∙_}
 use borrow.Author.Needs.{needs}
-use Rattle.schedule.specs.Schedule.{members}
-use Rattle.schedule.specs.Result.{placeAfter}
-use Rattle.schedule.proofs.Members.{no-member, member-refused, member-read, read-got, read-no}
-use Rattle.schedule.proofs.read_members.Statement.{statement}
-use Rattle.schedule.proofs.read_members.Tie as tie
+use Rattle.members.specs.Members.{members}
+use Rattle.members.specs.Result.{placeAfter}
+use Rattle.members.proofs.Members.{no-member, member-refused, member-read, read-got, read-no}
+use Rattle.members.proofs.read_members.Statement.{statement}
+use Rattle.members.proofs.read_members.Tie as tie
 
 abbrev Inv-loop : tie.InvT-loop
 Inv-loop src at count p₀ before₀ i₀ left₀ p before i left = (i + left ≤ 501) × (placeAfter (members count src at 0 1) ≡ placeAfter (members left src p before i))

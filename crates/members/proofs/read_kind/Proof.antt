@@ -1,12 +1,12 @@
--- `schedule::read_kind` meets its contract.
+-- `members::read_kind` meets its contract.
 use mathlib.Core.Path.{sym, _∙_}
 use Rattle.field.specs.Fields.{known}
 use Rattle.question.specs.declared.Question.the-variants.{Kind}
-use Rattle.schedule.specs.Schedule.{kindAt}
+use Rattle.members.specs.Members.{kindAt}
 use Rattle.reading.proofs.Checked.{number-refused, number-passes, number-fails}
 use borrow.Author.Needs.{needs}
-use Rattle.schedule.proofs.read_kind.Statement.{statement}
-use Rattle.schedule.proofs.read_kind.Tie as tie
+use Rattle.members.proofs.read_kind.Statement.{statement}
+use Rattle.members.proofs.read_kind.Tie as tie
 
 number-at-requires : tie.Need-number-at-requires
 number-at-requires c κs = search needs

@@ -1,10 +1,10 @@
--- `schedule::read_whole` meets its contract.
-use mathlib.Core.Path.{refl, sym, _∙_}
-use Rattle.schedule.proofs.Members.{whole-passed}
+-- `members::read_whole` meets its contract.
+use mathlib.Core.Path.{sym, _∙_}
+use Rattle.members.proofs.Members.{whole-passed}
 use Rattle.reading.proofs.Taken.{took-got, taken-fields}
 use borrow.Author.Needs.{needs}
-use Rattle.schedule.proofs.read_whole.Statement.{statement}
-use Rattle.schedule.proofs.read_whole.Tie as tie
+use Rattle.members.proofs.read_whole.Statement.{statement}
+use Rattle.members.proofs.read_whole.Tie as tie
 
 take-fields-requires : tie.Need-take-fields-requires
 take-fields-requires c κs = search needs

@@ -1,11 +1,11 @@
--- `schedule::read_one_by_one` meets its contract.
+-- `members::read_one_by_one` meets its contract.
 use mathlib.Core.Path.{sym, _∙_}
 use Rattle.reading.proofs.Held.{fields-held}
 use Rattle.reading.proofs.Checked.{run-got, run-no}
-use Rattle.schedule.proofs.Members.{whole-no, whole-passed}
+use Rattle.members.proofs.Members.{whole-no, whole-passed}
 use borrow.Author.Needs.{needs}
-use Rattle.schedule.proofs.read_one_by_one.Statement.{statement}
-use Rattle.schedule.proofs.read_one_by_one.Tie as tie
+use Rattle.members.proofs.read_one_by_one.Statement.{statement}
+use Rattle.members.proofs.read_one_by_one.Tie as tie
 
 read-fields-requires : tie.Need-read-fields-requires
 read-fields-requires c κs = search needs

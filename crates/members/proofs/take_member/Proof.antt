@@ -1,10 +1,10 @@
--- `schedule::take_member` meets its contract.
+-- `members::take_member` meets its contract.
 use mathlib.Core.Path.{sym, ap, _∙_}
-use Rattle.schedule.proofs.Accepted.{mark-taken, kind-taken, kind-is-known, fields-not-refused, member-taken}
+use Rattle.members.proofs.Accepted.{mark-taken, kind-taken, kind-is-known, fields-not-refused, member-taken}
 use borrow.Author.Needs.{needs}
 use Rattle.reading.specs.Taken.{taken}
-use Rattle.schedule.proofs.take_member.Statement.{statement}
-use Rattle.schedule.proofs.take_member.Tie as tie
+use Rattle.members.proofs.take_member.Statement.{statement}
+use Rattle.members.proofs.take_member.Tie as tie
 
 number-at-requires : tie.Need-number-at-requires
 number-at-requires c κs = search needs

@@ -1,8 +1,8 @@
--- `schedule::mark_rises` meets its contract.
-use Rattle.schedule.specs.Schedule.{markRises}
+-- `members::mark_rises` meets its contract.
+use Rattle.members.specs.Members.{markRises}
 use borrow.Author.Needs.{needs}
-use Rattle.schedule.proofs.mark_rises.Statement.{statement}
-use Rattle.schedule.proofs.mark_rises.Tie as tie
+use Rattle.members.proofs.mark_rises.Statement.{statement}
+use Rattle.members.proofs.mark_rises.Tie as tie
 
 mark-in-range-requires : tie.Need-mark-in-range-requires
 mark-in-range-requires c κs = search needs

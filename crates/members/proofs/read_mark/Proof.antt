@@ -1,11 +1,11 @@
--- `schedule::read_mark` meets its contract.
+-- `members::read_mark` meets its contract.
 use mathlib.Core.Path.{sym, _∙_}
-use Rattle.schedule.specs.Schedule.{markRises, markAt}
+use Rattle.members.specs.Members.{markRises, markAt}
 use Rattle.question.specs.declared.Question.the-variants.{Mark}
 use Rattle.reading.proofs.Checked.{number-refused, number-passes, number-fails}
 use borrow.Author.Needs.{needs}
-use Rattle.schedule.proofs.read_mark.Statement.{statement}
-use Rattle.schedule.proofs.read_mark.Tie as tie
+use Rattle.members.proofs.read_mark.Statement.{statement}
+use Rattle.members.proofs.read_mark.Tie as tie
 
 number-at-requires : tie.Need-number-at-requires
 number-at-requires c κs = search needs

@@ -1,18 +1,15 @@
 -- What the code's results say, in the terms of the definitions.
 use Prim.Native.Nat.{ℕ}
 use mathlib.Core.List.{List}
-use lib.ListN.{length}
 use Rattle.question.specs.declared.Question.{Question}
 use Rattle.question.specs.declared.Refusal.{Refusal}
 use Rattle.member.specs.Member.{Member}
 use Rattle.built.specs.declared.Built.{Built}
-use Rattle.schedule.specs.declared.MemberRead.{MemberRead}
-use Rattle.schedule.specs.declared.Head.{Head}
-use Rattle.schedule.specs.declared.Ends.{Ends}
-use Rattle.schedule.specs.declared.Ends.the-variants.{At}
-use Rattle.schedule.specs.declared.Ends.the-variants as ends
-use Rattle.schedule.specs.declared.Answer.{Answer}
-use Rattle.schedule.specs.declared.Answer.the-variants.{Accepted, Refused}
+use Rattle.members.specs.declared.MemberRead.{MemberRead}
+use Rattle.members.specs.declared.Head.{Head}
+use Rattle.members.specs.declared.Ends.{Ends}
+use Rattle.members.specs.declared.Ends.the-variants.{At}
+use Rattle.members.specs.declared.Ends.the-variants as ends
 use Rattle.reading.specs.Reading.{Reading, got, no, Placed, placed, passed}
 
 abbrev pub readOf : MemberRead → Reading Question (Placed ℕ)
@@ -35,8 +32,3 @@ endsOf (ends.Refused r) = no r
 abbrev pub placeAfter : Reading Refusal (Placed (List Member)) → Reading Refusal ℕ
 placeAfter (got ms) = got (ms .next)
 placeAfter (no r) = no r
-
--- the number of members, or the refusal
-abbrev pub answerOf : Reading Refusal (List Member) → Answer
-answerOf (got ms) = Accepted (length ms)
-answerOf (no r) = Refused r

@@ -1,10 +1,10 @@
--- `schedule::read_member` meets its contract.
+-- `members::read_member` meets its contract.
 use mathlib.Core.Path.{sym, ap, _∙_}
-use Rattle.schedule.specs.Result.{marked}
-use Rattle.schedule.proofs.Members.{mark-refused, kind-refused, member-whole, kind-known}
+use Rattle.members.specs.Result.{marked}
+use Rattle.members.proofs.Members.{mark-refused, kind-refused, member-whole, kind-known}
 use borrow.Author.Needs.{needs}
-use Rattle.schedule.proofs.read_member.Statement.{statement}
-use Rattle.schedule.proofs.read_member.Tie as tie
+use Rattle.members.proofs.read_member.Statement.{statement}
+use Rattle.members.proofs.read_member.Tie as tie
 
 read-mark-requires : tie.Need-read-mark-requires
 read-mark-requires c κs = search needs

@@ -1,0 +1,201 @@
+// The members of a schedule, read one after the other: where they end, or the first question answered no, with its member.
+ghost use mathlib.Core.Path.{_≡_};
+ghost use mathlib.Core.Bool.{true};
+ghost use Prim.Native.Nat.{_≤_};
+ghost use Rattle.field.specs.Fields.{known};
+ghost use Rattle.reading.specs.Reading.{got, no, placed, ofNumber, Got};
+ghost use Rattle.reading.specs.Fields.{empty};
+ghost use Rattle.members.specs.Members.{whole, markRises, markAt, kindAt, member, members};
+ghost use Rattle.members.specs.Result.{readOf, marked, headed, endsOf, placeAfter};
+use built::Verdict;
+use built::mark_in_range;
+use built::member_verdict;
+use field::is_known;
+use number::Number;
+use number::number_at;
+use quantity::both;
+use question::Question;
+use question::Refusal;
+use reading::Took;
+use reading::read_fields;
+use reading::take_fields;
+use slots::fields_hold;
+
+// A member read: refused, or its mark and the place after it.
+pub struct MemberRead {
+    pub verdict: Verdict,
+    pub mark: u32,
+    pub next: usize,
+}
+
+// The mark and kind of a member, and the place after it.
+pub struct Head {
+    pub mark: u32,
+    pub kind: u32,
+    pub next: usize,
+}
+
+// Where a row of members ends, or the refusal.
+pub enum Ends {
+    At(usize),
+    Refused(Refusal),
+}
+
+fn refused_member(q: Question) -> MemberRead
+    ensures { λ r. ⌜ readOf r ≡ no q ⌝ }
+{
+    MemberRead {
+        verdict: Verdict::Refused(q),
+        mark: 0,
+        next: 0,
+    }
+}
+
+// The member with this mark and kind, whose fields are read one by one from `at` on.
+fn read_one_by_one(src: &[u8], at: usize, mark: u32, kind: u32) -> MemberRead
+    requires { ⌜ known kind ≡ true ⌝ }
+    ensures { λ r. ⌜ readOf r ≡ marked (whole mark kind (now (src .entry)) at) ⌝ }
+{
+    let run = read_fields(src, at, kind);
+    let verdict = run.verdict;
+    let fields = run.slots;
+    let v = fields.v;
+    match verdict {
+        Verdict::Refused(q) => refused_member(q),
+        Verdict::Accepted => MemberRead {
+            verdict: member_verdict(kind, &v),
+            mark,
+            next: run.next,
+        },
+    }
+}
+
+// The same, faster: the fields are taken at once and put question 7 together. Where that fails, one by one finds the first no.
+fn read_whole(src: &[u8], at: usize, mark: u32, kind: u32) -> MemberRead
+    requires { ⌜ known kind ≡ true ⌝ }
+    ensures { λ r. ⌜ readOf r ≡ marked (whole mark kind (now (src .entry)) at) ⌝ }
+{
+    let mut v = [0u32; 40];
+    match take_fields(src, at, kind, &mut v) {
+        Took::Refused(_) => read_one_by_one(src, at, mark, kind),
+        Took::To(next) => {
+            if fields_hold(kind, &v) {
+                MemberRead {
+                    verdict: member_verdict(kind, &v),
+                    mark,
+                    next,
+                }
+            } else {
+                read_one_by_one(src, at, mark, kind)
+            }
+        }
+    }
+}
+
+// 5: a mark in range, and above the one before.
+fn mark_rises(before: u32, mark: u32) -> bool
+    ensures { λ r. ⌜ r ≡ markRises before mark ⌝ }
+{
+    both(mark_in_range(mark), before < mark)
+}
+
+// The mark at `at`: questions 2, 3 and 5.
+fn read_mark(src: &[u8], at: usize, before: u32) -> Number
+    ensures { λ r. ⌜ ofNumber r ≡ markAt (now (src .entry)) at before ⌝ }
+{
+    match number_at(src, at) {
+        Number::Refused(q) => Number::Refused(q),
+        Number::Value(x, next) => {
+            if mark_rises(before, x) {
+                Number::Value(x, next)
+            } else {
+                Number::Refused(Question::Mark)
+            }
+        }
+    }
+}
+
+// The kind at `at`: questions 2, 3 and 6.
+fn read_kind(src: &[u8], at: usize) -> Number
+    ensures { λ r. ⌜ ofNumber r ≡ kindAt (now (src .entry)) at ⌝ }
+{
+    match number_at(src, at) {
+        Number::Refused(q) => Number::Refused(q),
+        Number::Value(x, next) => {
+            if is_known(x) {
+                Number::Value(x, next)
+            } else {
+                Number::Refused(Question::Kind)
+            }
+        }
+    }
+}
+
+// The member at `at`, its mark above the one before.
+fn read_member(src: &[u8], at: usize, before: u32) -> MemberRead
+    ensures { λ r. ⌜ readOf r ≡ marked (member (now (src .entry)) at before) ⌝ }
+{
+    match read_mark(src, at, before) {
+        Number::Refused(q) => refused_member(q),
+        Number::Value(mark, p) => match read_kind(src, p) {
+            Number::Refused(q) => refused_member(q),
+            Number::Value(kind, next) => read_whole(src, next, mark, kind),
+        },
+    }
+}
+
+// Stands where an accepted member would be refused.
+fn no_head() -> Head {
+    Head {
+        mark: 0,
+        kind: 0,
+        next: 0,
+    }
+}
+
+// The fields of the accepted member at `at` into empty slots: its mark and kind, and the place after it.
+pub fn take_member(src: &[u8], at: usize, v: &mut [u32; 40]) -> Head
+    requires { ⌜ (now v ≡ empty) × (Got (member (now src) at 0)) ⌝ }
+    ensures { λ r. ⌜ member (now (src .entry)) at 0 ≡ got (placed (headed r (now (v .exit))) (r .next)) ⌝ }
+{
+    match number_at(src, at) {
+        Number::Refused(_) => no_head(),
+        Number::Value(mark, p) => match number_at(src, p) {
+            Number::Refused(_) => no_head(),
+            Number::Value(kind, first) => match take_fields(src, first, kind, v) {
+                Took::Refused(_) => no_head(),
+                Took::To(next) => Head { mark, kind, next },
+            },
+        },
+    }
+}
+
+// `count` members from `at` on: where they end, or the refusal.
+pub fn read_members(src: &[u8], at: usize, count: u32) -> Ends
+    requires { ⌜ count ≤ 500 ⌝ }
+    ensures { λ r. ⌜ endsOf r ≡ placeAfter (members count (now (src .entry)) at 0 1) ⌝ }
+{
+    let mut p = at;
+    let mut before: u32 = 0;
+    let mut i: u32 = 1;
+    let mut left = count;
+    while 0 < left {
+        let r = read_member(src, p, before);
+        let verdict = r.verdict;
+        match verdict {
+            Verdict::Refused(q) => {
+                return Ends::Refused(Refusal {
+                    question: q,
+                    member: i,
+                });
+            }
+            Verdict::Accepted => {
+                p = r.next;
+                before = r.mark;
+                i += 1;
+                left -= 1;
+            }
+        }
+    }
+    Ends::At(p)
+}
