@@ -8,7 +8,7 @@ use borrow.Author.Tests.{ltb-true, lt-ltb}
 use Rattle.question.specs.declared.Question.{Question}
 use Rattle.question.specs.declared.Question.the-variants.{Mark, Kind}
 use Rattle.number.specs.declared.Number.{Number}
-use Rattle.number.specs.declared.Number.the-variants.{Value, Refused}
+use Rattle.number.specs.declared.Number.the-variants.{Value}
 use Rattle.number.specs.Number.{numberAt}
 use Rattle.member.specs.Member.{Member}
 use Rattle.member.specs.Accepted.{AcceptedMember, AcceptedMembers}
@@ -22,16 +22,13 @@ use Rattle.built.specs.declared.Verdict.the-variants as verdicts
 use Rattle.built.specs.Slots.{memberOf}
 use Rattle.built.specs.Verdict.{markInRange, memberVerdict}
 use Rattle.built.proofs.Accepted.{accepted-member}
-use Rattle.reading.specs.Reading.{Reading, got, no, Placed, placed, andThen, passed, Got}
+use Rattle.reading.specs.Reading.{Reading, got, no, Placed, placed, andThen, passed, Got, ofNumber}
 use Rattle.reading.specs.Fields.{empty, checked, fields}
 use Rattle.members.specs.Members.{whole, markRises, markAt, kindAt, member, members}
-use Rattle.reading.specs.declared.Took.{Took}
-use Rattle.reading.specs.declared.Took.the-variants.{To}
-use Rattle.reading.specs.declared.Took.the-variants as took
-use Rattle.reading.specs.Taken.{taken, tookOf}
+use Rattle.reading.specs.Taken.{taken}
 use Rattle.reading.proofs.Checked.{on-checked, passes, number-passes}
 use Rattle.reading.proofs.Held.{fields-held}
-use Rattle.reading.proofs.Taken.{got-is, fields-taken, took-got}
+use Rattle.reading.proofs.Taken.{got-is, fields-taken}
 use Rattle.members.proofs.Members.{first-read}
 
 -- ---- Steps taken apart.
@@ -144,6 +141,13 @@ member-parts s p before x e =
         }
     on-verdict m k f a b c g (verdicts.Refused q) e = absurd (no-got e)
 
+value-is : (n : Number) (x next y after : ℕ) → n ≡ Value x next → n ≡ Value y after → (x ≡ y) × (next ≡ after)
+value-is n x next y after e f = (cc, cc)
+
+value-got : {n : Number} {x next : ℕ} → n ≡ Value x next → Got (ofNumber n)
+unfolding Got
+value-got e = rw e tt
+
 -- an accepted member, as the code takes it
 module _ (s : List ℕ) (p : ℕ) (ok : Got (member s p 0)) where
   was : WasGot (member s p 0)
@@ -152,17 +156,11 @@ module _ (s : List ℕ) (p : ℕ) (ok : Got (member s p 0)) where
   parts : MemberParts s p (was .value)
   parts = member-parts s p 0 (was .value) (was .was)
 
-  refused-not : (n : Number) (q : Question) (x next : ℕ) → n ≡ Value x next → n ≡ Refused q → ⊥
-  refused-not n q x next e f = let z : _≡_ {A = ℕ} 0 1 = cc in omega arith
-
-  value-is : (n : Number) (x next y after : ℕ) → n ≡ Value x next → n ≡ Value y after → (x ≡ y) × (next ≡ after)
-  value-is n x next y after e f = (cc, cc)
-
   abbrev made : ℕ → ℕ → List ℕ → Built
   made m c w = record { mark = m; kind = c; fields = record { v = w } }
 
-  pub mark-taken : (q : Question) → numberAt s p ≡ Refused q → ⊥
-  mark-taken q e = refused-not _ q _ _ (parts .mark-is) e
+  pub mark-got : Got (ofNumber (numberAt s p))
+  mark-got = value-got (parts .mark-is)
 
   module _ (mark at : ℕ) (m : numberAt s p ≡ Value mark at) where
     mark-same : (parts .mark ≡ mark) × (parts .after-mark ≡ at)
@@ -171,8 +169,8 @@ module _ (s : List ℕ) (p : ℕ) (ok : Got (member s p 0)) where
     kind-at : numberAt s at ≡ Value (parts .kind) (parts .after-kind)
     kind-at = rw (← mark-same .1) (parts .kind-is)
 
-    pub kind-taken : (q : Question) → numberAt s at ≡ Refused q → ⊥
-    kind-taken q e = refused-not _ q _ _ kind-at e
+    pub kind-got : Got (ofNumber (numberAt s at))
+    kind-got = value-got kind-at
 
     module _ (kind first : ℕ) (k : numberAt s at ≡ Value kind first) where
       kind-same : (parts .kind ≡ kind) × (parts .after-kind ≡ first)
@@ -184,18 +182,19 @@ module _ (s : List ℕ) (p : ℕ) (ok : Got (member s p 0)) where
       takes : taken (fieldsOf kind) s first 0 empty ≡ got (placed (parts .slots) (was .value .next))
       takes = rw (← kind-same .0, ← kind-same .1) (parts .takes)
 
-      module _ (n : Took) (v : List ℕ) (t : tookOf n v ≡ taken (fieldsOf kind) s first 0 empty) where
-        pub fields-not-refused : (q : Question) → n ≡ took.Refused q → ⊥
-        fields-not-refused q e = no-got (sym (ap (λ (k : Took). tookOf k v) e) ∙ t ∙ takes)
+      pub fields-got : Got (taken (fieldsOf kind) s first 0 empty)
+      unfolding Got
+      fields-got = rw takes tt
 
-        pub member-taken : (next : ℕ) → n ≡ To next → member s p 0 ≡ got (placed (record { mark = mark; kind = kind; fields = record { v = v } }) next)
-        member-taken next e =
-            let f : placed v next ≡ placed (parts .slots) (was .value .next) = got-is (sym (took-got n v _ t next e) ∙ takes) in
-            was .was
-            ∙ ap (λ (b : Built). got (placed b (was .value .next))) (parts .member-is)
-            ∙ ap (λ (m : ℕ). got (placed (made m (parts .kind) (parts .slots)) (was .value .next))) (mark-same .0)
-            ∙ ap (λ (c : ℕ). got (placed (made mark c (parts .slots)) (was .value .next))) (kind-same .0)
-            ∙ ap (λ (r : Placed (List ℕ)). got (placed (made mark kind (r .value)) (r .next))) (sym f)
+      pub member-taken : (v : List ℕ) (next : ℕ) → taken (fieldsOf kind) s first 0 empty ≡ got (placed v next)
+          → member s p 0 ≡ got (placed (record { mark = mark; kind = kind; fields = record { v = v } }) next)
+      member-taken v next t =
+          let f : placed v next ≡ placed (parts .slots) (was .value .next) = got-is (sym t ∙ takes) in
+          was .was
+          ∙ ap (λ (b : Built). got (placed b (was .value .next))) (parts .member-is)
+          ∙ ap (λ (m : ℕ). got (placed (made m (parts .kind) (parts .slots)) (was .value .next))) (mark-same .0)
+          ∙ ap (λ (c : ℕ). got (placed (made mark c (parts .slots)) (was .value .next))) (kind-same .0)
+          ∙ ap (λ (r : Placed (List ℕ)). got (placed (made mark kind (r .value)) (r .next))) (sym f)
 
 -- an accepted member is so whatever mark stands before it
 pub any-before : (s : List ℕ) (p before : ℕ) (x : Placed Built) → member s p before ≡ got x → member s p 0 ≡ got x

@@ -19,6 +19,8 @@ use question::Refusal;
 use reading::Took;
 use reading::read_fields;
 use reading::take_fields;
+use rereading::reread_fields;
+use rereading::reread_number;
 use slots::fields_hold;
 
 // A member read: refused, or its mark and the place after it.
@@ -144,29 +146,18 @@ fn read_member(src: &[u8], at: usize, before: u32) -> MemberRead
     }
 }
 
-// Stands where an accepted member would be refused.
-fn no_head() -> Head {
-    Head {
-        mark: 0,
-        kind: 0,
-        next: 0,
-    }
-}
-
 // The fields of the accepted member at `at` into empty slots: its mark and kind, and the place after it.
 pub fn take_member(src: &[u8], at: usize, v: &mut [u32; 40]) -> Head
     requires { ⌜ (now v ≡ empty) × (Got (member (now src) at 0)) ⌝ }
     ensures { λ r. ⌜ member (now (src .entry)) at 0 ≡ got (placed (headed r (now (v .exit))) (r .next)) ⌝ }
 {
-    match number_at(src, at) {
-        Number::Refused(_) => no_head(),
-        Number::Value(mark, p) => match number_at(src, p) {
-            Number::Refused(_) => no_head(),
-            Number::Value(kind, first) => match take_fields(src, first, kind, v) {
-                Took::Refused(_) => no_head(),
-                Took::To(next) => Head { mark, kind, next },
-            },
-        },
+    let mark = reread_number(src, at);
+    let kind = reread_number(src, mark.next);
+    let next = reread_fields(src, kind.next, kind.value, v);
+    Head {
+        mark: mark.value,
+        kind: kind.value,
+        next,
     }
 }
 

@@ -11,7 +11,7 @@ pub enum Number {
     Refused(Question),
 }
 
-fn wide(x: u8) -> u64
+pub fn wide(x: u8) -> u64
     ensures { λ r. ⌜ r ≡ x ⌝ }
 {
     x as u64

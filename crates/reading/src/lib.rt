@@ -116,7 +116,7 @@ fn take_run(src: &[u8], at: usize, v: &mut [u32; 40], from: usize, end: usize) -
     Took::To(p)
 }
 
-fn at_most_four(count: u32) -> usize
+pub fn at_most_four(count: u32) -> usize
     ensures { λ r. ⌜ r ≡ min count 4 ⌝ }
 {
     if count < 4 { count as usize } else { 4 }

@@ -1,0 +1,122 @@
+-- `rereading::reread_number` meets its contract.
+use mathlib.Core.Path.{_∙_}
+use Prim.Native.Nat.{_+_, _<_}
+use native.Mathlib.Omega.{arith}
+use lib.ListN.{length}
+use borrow.Author.Needs.{needs}
+use Rattle.rereading.proofs.Numbers.{first-there, first-ends, second-there, second-ends, third-follows, third-read}
+use Rattle.rereading.proofs.reread_number.Statement.{statement}
+use Rattle.rereading.proofs.reread_number.Tie as tie
+
+-- the first two groups are bytes
+first-byte : (c : tie.After-wide) → c .wide .result < 256
+first-byte c = omega (arith, c .wide .ensures, c .before .shared-slice-known2 .given (c .before .before .before .args .at))
+
+second-byte : (c : tie.After-wide2) → c .wide2 .result < 256
+second-byte c =
+    let s = c .before .before .before .before .before .before in
+    omega (arith, c .wide2 .ensures, c .before .shared-slice-known3 .given (s .args .at + 1))
+
+-- the second stands inside the bytes
+inside : (c : tie.Else1) → let s = c .before .before .before .before in s .args .at + 1 < length (s .args .src .now)
+inside c =
+    let w = c .before in
+    second-there _ _ (w .before .before .before .pre) _ (w .wide .ensures) (c .if1 .left)
+
+shared-slice-read-wide : tie.Need-shared-slice-read-wide
+shared-slice-read-wide c = first-there _ _ (c .before .before .pre)
+
+wide-requires : tie.Need-wide-requires
+wide-requires c κs = search needs
+
+add-number-read : tie.Need-add-number-read
+add-number-read c =
+    let s = c .before .before .before .before in
+    omega (arith, first-there _ _ (s .pre), s .good .0 .0)
+
+number-read-requires : tie.Need-number-read-requires
+number-read-requires c κs = search needs
+
+returns : tie.Need-returns
+returns c =
+    let w = c .before .before in
+    first-ends _ _ (w .before .before .before .pre) _ (w .wide .ensures) (c .before .if1 .taken) ∙ rw (c .number-read .ensures)
+
+add-wide : tie.Need-add-wide
+add-wide c = omega (arith, inside c, c .before .before .before .before .good .0 .0)
+
+shared-slice-read-wide-2 : tie.Need-shared-slice-read-wide-2
+shared-slice-read-wide-2 c = inside (c .before)
+
+wide-requires-2 : tie.Need-wide-requires-2
+wide-requires-2 c κs = search needs
+
+mul-number-read : tie.Need-mul-number-read
+mul-number-read c = search needs
+
+add-number-read-2 : tie.Need-add-number-read-2
+add-number-read-2 c = omega (arith, first-byte (c .before .before .before .before))
+
+add-number-read-3 : tie.Need-add-number-read-3
+add-number-read-3 c =
+    let e = c .before .before .before in
+    omega (arith, inside e, e .before .before .before .before .good .0 .0)
+
+number-read-requires-2 : tie.Need-number-read-requires-2
+number-read-requires-2 c κs = omega (arith, first-byte (c .before .before .before .before))
+
+returns-2 : tie.Need-returns-2
+returns-2 c =
+    let v = c .before .before in
+    let e = v .before .before in
+    let w = e .before in
+    second-ends _ _ (w .before .before .before .pre) _ (w .wide .ensures) (e .if1 .left) _ (v .wide2 .ensures) (c .before .if2 .taken) ∙ rw (c .number-read2 .ensures)
+
+add-reread-long : tie.Need-add-reread-long
+add-reread-long c =
+    let e = c .before .before .before in
+    omega (arith, inside e, e .before .before .before .before .good .0 .0)
+
+mul-reread-long : tie.Need-mul-reread-long
+mul-reread-long c = omega (arith, second-byte (c .before))
+
+add-reread-long-2 : tie.Need-add-reread-long-2
+add-reread-long-2 c = omega (arith, first-byte (c .before .before .before .before), second-byte (c .before))
+
+reread-long-requires : tie.Need-reread-long-requires
+reread-long-requires c κs =
+    let e = c .before .before .before in
+    let w = e .before in (
+      omega (arith, first-byte w, second-byte (c .before)),
+      third-read _ _ (w .before .before .before .pre) _ (w .wide .ensures) (e .if1 .left) _ (c .before .wide2 .ensures) (c .if2 .left),
+    )
+
+returns-3 : tie.Need-returns-3
+returns-3 c =
+    let f = c .before in
+    let e = f .before .before .before in
+    let w = e .before in
+    third-follows _ _ (w .before .before .before .pre) _ (w .wide .ensures) (e .if1 .left) _ (f .before .wide2 .ensures) (f .if2 .left) ∙ c .reread-long .ensures
+
+pub reread-number-spec : {M : Type 1} → statement M
+reread-number-spec =
+    tie.close
+    (tie.spec
+    shared-slice-read-wide
+    wide-requires
+    add-number-read
+    number-read-requires
+    returns
+    add-wide
+    shared-slice-read-wide-2
+    wide-requires-2
+    mul-number-read
+    add-number-read-2
+    add-number-read-3
+    number-read-requires-2
+    returns-2
+    add-reread-long
+    mul-reread-long
+    add-reread-long-2
+    reread-long-requires
+    returns-3)
