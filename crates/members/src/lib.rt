@@ -153,11 +153,11 @@ pub fn take_member(src: &[u8], at: usize, v: &mut [u32; 40]) -> Head
 {
     let mark = reread_number(src, at);
     let kind = reread_number(src, mark.next);
-    let next = reread_fields(src, kind.next, kind.value, v);
+    let after = reread_fields(src, kind.next, kind.value, v);
     Head {
         mark: mark.value,
         kind: kind.value,
-        next,
+        next: after,
     }
 }
 

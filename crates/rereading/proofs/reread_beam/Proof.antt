@@ -33,8 +33,8 @@ reread-list-requires-2 c κs =
     let s = a .before .before .before in (
       omega arith,
       first-got _ _
-      (then-got _ _ _ (d .reread-row2 .ensures)
-      (then-got _ _ _ (b .reread-list .ensures) (then-got _ _ _ (a .reread-row .ensures) (same-got (beam-rows _ _ _) (s .pre))))),
+          (then-got _ _ _ (d .reread-row2 .ensures)
+          (then-got _ _ _ (b .reread-list .ensures) (then-got _ _ _ (a .reread-row .ensures) (same-got (beam-rows _ _ _) (s .pre))))),
     )
 
 reread-row-requires-3 : tie.Need-reread-row-requires-3
@@ -47,8 +47,8 @@ reread-row-requires-3 c κs =
       omega arith,
       omega arith,
       then-got _ _ _ (e .reread-list2 .ensures)
-      (then-got _ _ _ (d .reread-row2 .ensures)
-      (then-got _ _ _ (b .reread-list .ensures) (then-got _ _ _ (a .reread-row .ensures) (same-got (beam-rows _ _ _) (s .pre))))),
+          (then-got _ _ _ (d .reread-row2 .ensures)
+          (then-got _ _ _ (b .reread-list .ensures) (then-got _ _ _ (a .reread-row .ensures) (same-got (beam-rows _ _ _) (s .pre))))),
     )
 
 returns : tie.Need-returns

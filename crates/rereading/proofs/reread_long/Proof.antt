@@ -80,7 +80,7 @@ add-p : tie.Need-add-p Inv-loop μ-loop
 add-p c = omega (arith, there _ _ _ _ _ (read-on (c .before)), c .before .before .before .before .before .good .0 .0)
 
 shared-slice-read-wide-2 : tie.Need-shared-slice-read-wide-2 Inv-loop μ-loop
-shared-slice-read-wide-2 c = 
+shared-slice-read-wide-2 c =
     let i = c .before in
     let l = i .before .loop in
     there _ _ _ _ _ (rw (turn _ _ _ _ _ _ (l .inv .5) (i .loop-test .taken) (read-on (i .before))) at (read-on (i .before)))
@@ -92,7 +92,7 @@ loop-less : tie.Need-loop-less Inv-loop μ-loop
 loop-less c = omega (arith, c .before .before .before .loop .inv .0)
 
 loop-again : tie.Need-loop-again Inv-loop μ-loop
-loop-again c = 
+loop-again c =
     let i = c .before .before in
     let l = i .before .loop in
     let on = read-on (i .before) in (
@@ -118,7 +118,7 @@ number-read-requires : tie.Need-number-read-requires Inv-loop μ-loop
 number-read-requires c κs = ended c .0
 
 returns : tie.Need-returns Inv-loop μ-loop
-returns c = 
+returns c =
     let a = c .before in
     a .before .loop .inv .6 ∙ ended a .1 ∙ rw (c .number-read .ensures)
 
