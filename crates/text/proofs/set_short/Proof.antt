@@ -1,0 +1,49 @@
+-- `text::set_short` meets its contract.
+use native.Mathlib.Omega.{arith}
+use borrow.Author.Needs.{needs}
+use Rattle.text.proofs.Put.{put-set}
+use Rattle.text.proofs.Decimal.{decimal-one, decimal-pair}
+use Rattle.text.proofs.set_short.Statement.{statement}
+use Rattle.text.proofs.set_short.Tie as tie
+
+digit-requires : tie.Need-digit-requires
+digit-requires c κs = search needs
+
+slice-write-out : tie.Need-slice-write-out
+slice-write-out c = search needs
+
+add-result : tie.Need-add-result
+add-result c = search needs
+
+same-length : tie.Need-same-length
+same-length c = search needs
+
+returns : tie.Need-returns
+returns c =
+    let s = c .before .before .before in
+    rw (decimal-one (s .args .v) (omega arith)) (put-set (s .args .out .now) (search needs) (c .digit .ensures) (omega arith))
+
+set-two-requires : tie.Need-set-two-requires
+set-two-requires c κs = search needs
+
+same-length-2 : tie.Need-same-length-2
+same-length-2 c = search needs
+
+returns-2 : tie.Need-returns-2
+returns-2 c =
+    let p = c .before .before in
+    let b = p .before .before .before in
+    rw (decimal-pair (b .before .args .v) (omega arith) (omega arith)) (p .set-two .ensures)
+
+pub set-short-spec : {M : Type 1} → statement M
+set-short-spec =
+    tie.close
+    (tie.spec
+    digit-requires
+    slice-write-out
+    add-result
+    same-length
+    returns
+    set-two-requires
+    same-length-2
+    returns-2)
