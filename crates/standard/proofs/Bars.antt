@@ -10,7 +10,7 @@ use lib.Dec.{eqb, eqb→eq, leb, leb→le, ltb}
 use lib.ListN.{getD}
 use Rattle.standard.specs.Table.{cell, listed}
 use Rattle.standard.specs.Bars.{bars, areaOf}
-use Rattle.standard.proofs.Table.{listed-rule, listed-key, unlisted-cell, cell-between}
+use Rattle.standard.proofs.Table.{listed-rule, listed-key, unlisted-cell, cell-between, key-between}
 
 -- every area of the table is 0.7854·d², rounded to a tenth of mm²
 unfoldable pub rounded : ℕ → ℕ
@@ -28,7 +28,7 @@ unlisted-area d e = unlisted-cell d 1 bars e
 -- what the formula multiplies stays small
 pub square-most : (d : ℕ) → listed d bars ≡ true → (d ≤ 50) × (7854 * d * d ≤ 19635000)
 square-most d e =
-    let h : d ≤ 50 = rw (listed-key d bars e) at (cell-between 0 0 50 d bars tt e .1) in
+    let h : d ≤ 50 = key-between 0 50 d bars tt e .1 in
     (h, rw (mul-assoc 7854 d d) (mul-le-mul-left 7854 (mul-le-mul h h)))
 
 -- no bar is larger than the last of the table
