@@ -1,6 +1,6 @@
 -- The table of bars: its areas by formula, and its rule.
-use Prim.Native.Nat.{ℕ, _+_, _*_, _/_, _≤_}
-use mathlib.Core.Path.{_≡_, refl, sym, ap, _∙_}
+use Prim.Native.Nat.{ℕ, _+_, _*_, _/_, _≤_, _<_}
+use mathlib.Core.Path.{_≡_, refl, ap, _∙_}
 use mathlib.Core.Bool.{Bool, true, false, _||_}
 use borrow.Author.Tests.{le-ltb}
 use mathlib.Core.List.{List}
@@ -24,6 +24,14 @@ listed-area d e =
 pub unlisted-area : (d : ℕ) → listed d bars ≡ false → areaOf d ≡ 0
 unfolding areaOf
 unlisted-area d e = unlisted-cell d 1 bars e
+
+-- a diameter with an area is listed
+pub area-listed : (d : ℕ) → 0 < areaOf d → listed d bars ≡ true
+area-listed d h = go (listed d bars) refl
+  where
+    go : (t : Bool) → listed d bars ≡ t → listed d bars ≡ true
+    go true e = e
+    go false e = absurd (omega (arith, unlisted-area d e))
 
 -- what the formula multiplies stays small
 pub square-most : (d : ℕ) → listed d bars ≡ true → (d ≤ 50) × (7854 * d * d ≤ 19635000)

@@ -1,5 +1,6 @@
 // The tables of the codes: bars, concrete, steel, slenderness, mesh, spacing of links.
 ghost use mathlib.Core.Path.{_≡_};
+ghost use mathlib.Core.Bool.{true};
 ghost use mathlib.Core.List.{[]};
 ghost use Prim.Native.Nat.{_≤_, _/_, _%_};
 ghost use lib.ListN.{getD};
@@ -43,12 +44,20 @@ fn is_diameter(diameter: u32) -> bool
     }
 }
 
-// The area of one bar, in tenths of mm²: 0.7854·d² rounded; 0 where there is no such bar.
+// The area of a bar of the table, in tenths of mm²: 0.7854·d² rounded.
+pub fn bar_area(diameter: u32) -> u32
+    requires { ⌜ listed diameter bars ≡ true ⌝ }
+    ensures { λ r. ⌜ r ≡ areaOf diameter ⌝ }
+{
+    (7854 * diameter * diameter + 500) / 1000
+}
+
+// The same; 0 where there is no such bar.
 pub fn area_of(diameter: u32) -> u32
     ensures { λ r. ⌜ r ≡ areaOf diameter ⌝ }
 {
     if is_diameter(diameter) {
-        (7854 * diameter * diameter + 500) / 1000
+        bar_area(diameter)
     } else {
         0
     }
