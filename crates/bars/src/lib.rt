@@ -7,7 +7,7 @@ ghost use Rattle.bars.specs.Accepted.{AcceptedGroup, AcceptedGroups};
 use quantity::larger;
 use quantity::smaller;
 use quantity::wide;
-use standard::area_of;
+use standard::bar_area;
 
 // Bars of one diameter (mm).
 #[repr(C)]
@@ -27,9 +27,10 @@ pub struct Totals {
 }
 
 fn group_area(g: Group) -> u64
+    requires { ⌜ AcceptedGroup g ⌝ }
     ensures { λ r. ⌜ r ≡ groupArea g ⌝ }
 {
-    wide(g.bars) * wide(area_of(g.diameter))
+    wide(g.bars) * wide(bar_area(g.diameter))
 }
 
 fn group_diameters(g: Group) -> u64

@@ -1,6 +1,6 @@
 -- The table of bars: its areas by formula, and its rule.
-use Prim.Native.Nat.{ℕ, _+_, _*_, _/_, _≤_}
-use mathlib.Core.Path.{_≡_, refl, sym, ap, _∙_}
+use Prim.Native.Nat.{ℕ, _+_, _*_, _/_, _≤_, _<_}
+use mathlib.Core.Path.{_≡_, refl, ap, _∙_}
 use mathlib.Core.Bool.{Bool, true, false, _||_}
 use borrow.Author.Tests.{le-ltb}
 use mathlib.Core.List.{List}
@@ -10,7 +10,7 @@ use lib.Dec.{eqb, eqb→eq, leb, leb→le, ltb}
 use lib.ListN.{getD}
 use Rattle.standard.specs.Table.{cell, listed}
 use Rattle.standard.specs.Bars.{bars, areaOf}
-use Rattle.standard.proofs.Table.{listed-rule, listed-key, unlisted-cell, cell-between}
+use Rattle.standard.proofs.Table.{listed-rule, listed-key, unlisted-cell, cell-between, key-between}
 
 -- every area of the table is 0.7854·d², rounded to a tenth of mm²
 unfoldable pub rounded : ℕ → ℕ
@@ -25,10 +25,18 @@ pub unlisted-area : (d : ℕ) → listed d bars ≡ false → areaOf d ≡ 0
 unfolding areaOf
 unlisted-area d e = unlisted-cell d 1 bars e
 
+-- a diameter with an area is listed
+pub area-listed : (d : ℕ) → 0 < areaOf d → listed d bars ≡ true
+area-listed d h = go (listed d bars) refl
+  where
+    go : (t : Bool) → listed d bars ≡ t → listed d bars ≡ true
+    go true e = e
+    go false e = absurd (omega (arith, unlisted-area d e))
+
 -- what the formula multiplies stays small
 pub square-most : (d : ℕ) → listed d bars ≡ true → (d ≤ 50) × (7854 * d * d ≤ 19635000)
 square-most d e =
-    let h : d ≤ 50 = rw (listed-key d bars e) at (cell-between 0 0 50 d bars tt e .1) in
+    let h : d ≤ 50 = key-between 0 50 d bars tt e .1 in
     (h, rw (mul-assoc 7854 d d) (mul-le-mul-left 7854 (mul-le-mul h h)))
 
 -- no bar is larger than the last of the table

@@ -1,15 +1,17 @@
--- The rule of the tables of materials: every listed concrete and steel has usable values.
-use Prim.Native.Nat.{ℕ, _≤_}
+-- The tables of materials: every listed concrete and steel has usable values; the row of a grade.
+use Prim.Native.Nat.{ℕ, _-_, _/_, _≤_}
 use mathlib.Core.Path.{_≡_}
+use mathlib.Core.List.{[]}
 use mathlib.Core.Bool.{true}
 use native.Mathlib.Omega.{arith}
+use lib.ListN.{getD}
 use Rattle.quantity.specs.Unit.{stressOf}
 use Rattle.quantity.proofs.Rounding.{down-multiple}
-use Rattle.standard.specs.Table.{cell, listed}
+use Rattle.standard.specs.Table.{row, cell, listed}
 use Rattle.standard.specs.Concrete.{concretes, concreteOf}
 use Rattle.standard.specs.Steel.{steels, steelOf, linkSteels, fyvOf}
 use Rattle.standard.specs.Bounds.{WholeUpTo, UsableConcrete, UsableSteel}
-use Rattle.standard.proofs.Table.{cell-between}
+use Rattle.standard.proofs.Table.{cell-between, key-between, row-at}
 
 whole : (x n : ℕ) → x ≤ n → WholeUpTo n (stressOf x)
 whole x n h = record { most = rw (down-multiple 100 x (omega arith)) h; exact = rw (down-multiple 100 x (omega arith)) }
@@ -44,3 +46,11 @@ usable-steel code e =
 pub usable-links : (code : ℕ) → listed code linkSteels ≡ true → WholeUpTo 600 (fyvOf code)
 unfolding fyvOf
 usable-links code e = whole (cell code 1 linkSteels) 600 (cell-between 1 0 600 code linkSteels tt e .1)
+
+-- ---- The grades stand 5 apart, from 20 on.
+
+pub grade-least : (grade : ℕ) → listed grade concretes ≡ true → 20 ≤ grade
+grade-least grade e = key-between 20 100 grade concretes tt e .0
+
+pub grade-at : (grade : ℕ) → listed grade concretes ≡ true → getD concretes ((grade - 20) / 5) [] ≡ row grade concretes
+grade-at grade e = row-at (λ (k : ℕ). (k - 20) / 5) grade concretes tt e

@@ -1,36 +1,43 @@
 -- The table of mesh multiples: how the code reaches an entry, and the table's rule.
-use Prim.Native.Nat.{ℕ, _+_, _-_, _*_, _/_, _≤_, _<_, min}
-use mathlib.Core.Path.{_≡_, refl, ap, _∙_}
-use mathlib.Core.List.{[]}
+use Prim.Native.Nat.{ℕ, _+_, _-_, _*_, _/_, _%_, _≤_, min}
+use mathlib.Core.Path.{_≡_, _∙_}
+use mathlib.Core.List.{List, []}
 use native.Mathlib.Omega.{arith}
 use mathlib.Core.Bool.{Bool, _&&_}
-use lib.Dec.{leb, leb→le}
-use lib.ListN.{getD}
+use lib.Dec.{eqb, eqb→eq, leb, leb→le}
+use lib.ListN.{length, getD}
 use Rattle.standard.specs.Mesh.{multiples, multiple}
-use Rattle.standard.proofs.Table.{flat, flat-at, every-at, and-left, and-right}
+use Rattle.standard.proofs.Table.{every, every-at, and-left, and-right}
 
+-- rows of 5 entries: the entry at 5·row + column
 pub multiple-found : (family cross grade s l x : ℕ) → s ≡ min grade 40 → l ≡ s - 20 →
-    x ≡ getD (flat multiples) (5 * (2 * (family - 1) + cross) + l / 5) 0 → x ≡ multiple family cross grade
+    let i = 5 * (2 * (family - 1) + cross) + l / 5 in
+    x ≡ getD (getD multiples (i / 5) []) (i % 5) 0 → x ≡ multiple family cross grade
 unfolding multiple
 multiple-found family cross grade s l x p q e =
-    let n : l / 5 < 5 = omega arith in
-    e ∙ flat-at 5 multiples (refl, (refl, (refl, (refl, tt)))) (2 * (family - 1) + cross) (l / 5) n
-    ∙ ap (λ (k : ℕ). getD (getD multiples (2 * (family - 1) + cross) []) (k / 5) 0) (q ∙ ap (λ (k : ℕ). k - 20) p)
+    let r = 2 * (family - 1) + cross in
+    let row : (5 * r + l / 5) / 5 ≡ r = omega arith in
+    let column : (5 * r + l / 5) % 5 ≡ (min grade 40 - 20) / 5 = omega arith in
+    e ∙ rw (row, column)
 
 -- ---- The table's rule.
 
 fits : ℕ → ℕ → Bool
 fits k x = leb 1 x && leb x 60
 
+-- a row of 5 entries that fit
+fitting : ℕ → List ℕ → Bool
+fitting k r = eqb (length r) 5 && every fits 0 r
+
 -- a multiple of the table is at least 1 and at most 60
 pub multiple-between : (family cross grade : ℕ) → (1 ≤ family) × (family ≤ 2) × (cross ≤ 1) →
     (1 ≤ multiple family cross grade) × (multiple family cross grade ≤ 60)
-unfolding fits
+unfolding multiple fits fitting
 multiple-between family cross grade h =
-    let l = min grade 40 - 20 in
-    let k = 5 * (2 * (family - 1) + cross) + l / 5 in
-    let n : k < 20 = omega arith in
-    let x = getD (flat multiples) k 0 in
-    let t = every-at fits 0 (flat multiples) tt k n in
-    rw (← multiple-found family cross grade (min grade 40) l x refl refl refl)
+    let k = (min grade 40 - 20) / 5 in
+    let r = getD multiples (2 * (family - 1) + cross) [] in
+    let x = getD r k 0 in
+    let u = every-at fitting [] multiples tt (2 * (family - 1) + cross) (omega arith) in
+    let five = eqb→eq (length r) 5 (and-left (eqb (length r) 5) (every fits 0 r) u) in
+    let t = every-at fits 0 r (and-right (eqb (length r) 5) (every fits 0 r) u) k (omega arith) in
     (leb→le 1 x (and-left (leb 1 x) (leb x 60) t), leb→le x 60 (and-right (leb 1 x) (leb x 60) t))

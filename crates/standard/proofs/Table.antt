@@ -1,13 +1,12 @@
--- Laws of tables: a rule tested at every entry holds at each; which keys are listed.
-use Prim.Native.Nat.{ℕ, zero, suc, _+_, _*_, _≤_, _<_}
+-- Laws of tables: a rule tested at every entry holds at each; which keys are listed; where a row stands.
+use Prim.Native.Nat.{ℕ, zero, suc, _+_, _≤_, _<_}
 use mathlib.Core.Path.{_≡_, refl, sym, ap, _∙_, subst}
 use mathlib.Core.Bool.{Bool, true, false, _&&_, _||_}
-use mathlib.Core.List.{List, [], _∷_, _++_, map}
-use native.Mathlib.Nat.{mul-suc, add-zero, zero-add, add-suc, suc-add, le-of-suc-le-suc, not-suc-le-zero}
+use mathlib.Core.List.{List, [], _∷_, map}
+use native.Mathlib.Nat.{add-zero, zero-add, add-suc, suc-add, le-of-suc-le-suc, not-suc-le-zero}
 use native.Mathlib.Omega.{arith}
 use lib.Dec.{T, eqb, eqb→eq, leb, leb→le}
-use lib.ListN.{length, getD, List·getD-append}
-use lib.Seq.{getD-append-add}
+use lib.ListN.{length, getD, List·getD-eq-default}
 use borrow.Author.Tests.{eq-eqb, ne-eqb}
 use Rattle.quantity.specs.Choice.{if_then_else_}
 use mathlib.Core.Logic.{inl, inr}
@@ -70,13 +69,16 @@ listed-key k (r ∷ rs) e = go (listed-key k rs) (eqb k (getD r 0 0)) refl e
     go h true q e = sym (eqb→eq k (getD r 0 0) (rw q tt))
     go h false q e = h e
 
-pub unlisted-cell : (k j : ℕ) (rows : List (List ℕ)) → listed k rows ≡ false → cell k j rows ≡ 0
-unlisted-cell k j [] e = refl
-unlisted-cell k j (r ∷ rs) e = go (unlisted-cell k j rs) (eqb k (getD r 0 0)) e
+pub unlisted-row : (k : ℕ) (rows : List (List ℕ)) → listed k rows ≡ false → row k rows ≡ []
+unlisted-row k [] e = refl
+unlisted-row k (r ∷ rs) e = go (unlisted-row k rs) (eqb k (getD r 0 0)) e
   where
-    go : (listed k rs ≡ false → cell k j rs ≡ 0) → (t : Bool) → (t || listed k rs) ≡ false → getD (if t then r else row k rs) j 0 ≡ 0
+    go : (listed k rs ≡ false → row k rs ≡ []) → (t : Bool) → (t || listed k rs) ≡ false → (if t then r else row k rs) ≡ []
     go h true e = absurd (let z : _≡_ {A = ℕ} 0 1 = cc in omega arith)
     go h false e = h e
+
+pub unlisted-cell : (k j : ℕ) (rows : List (List ℕ)) → listed k rows ≡ false → cell k j rows ≡ 0
+unlisted-cell k j rows e = ap (λ (r : List ℕ). getD r j 0) (unlisted-row k rows e)
 
 -- a rule that every row of a table passes holds of the row of a listed key
 pub listed-rule : (f : List ℕ → Bool) (k : ℕ) (rows : List (List ℕ)) (i : ℕ) → T (every (λ (i : ℕ) (r : List ℕ). f r) i rows) →
@@ -102,25 +104,33 @@ cell-between j lo hi k rows t e =
     let b = leb (cell k j rows) hi in
     (leb→le lo (cell k j rows) (and-left a b u), leb→le (cell k j rows) hi (and-right a b u))
 
--- ---- A table written row by row in one list.
+pub key-between : (lo hi k : ℕ) (rows : List (List ℕ)) → T (columnBetween 0 lo hi rows) → listed k rows ≡ true → (lo ≤ k) × (k ≤ hi)
+key-between lo hi k rows t e = rw (listed-key k rows e) at (cell-between 0 lo hi k rows t e)
 
-abbrev pub flat : List (List ℕ) → List ℕ
-flat [] = []
-flat (r ∷ rs) = r ++ flat rs
+-- ---- The place of a row.
 
--- every row is w wide
-abbrev pub wide : ℕ → List (List ℕ) → Type 0
-wide w [] = Unit {0}
-wide w (r ∷ rs) = (length r ≡ w) × wide w rs
+abbrev pub same : List ℕ → List ℕ → Bool
+same [] [] = true
+same [] (y ∷ ys) = false
+same (x ∷ xs) [] = false
+same (x ∷ xs) (y ∷ ys) = eqb x y && same xs ys
 
-pub flat-at : (w : ℕ) (rows : List (List ℕ)) → wide w rows → (r q : ℕ) → q < w → getD (flat rows) (w * r + q) 0 ≡ getD (getD rows r []) q 0
-flat-at w [] h r q l = refl
-flat-at w (x ∷ xs) h zero q l =
-    let e : w * 0 + q ≡ q = omega arith in
-    rw e (List·getD-append x (flat xs) 0 q (omega arith))
-flat-at w (x ∷ xs) h (suc r) q l =
-    let e : w * suc r + q ≡ length x + (w * r + q) = simp mul-suc (omega arith) in
-    rw e (getD-append-add x (flat xs) (w * r + q) 0 ∙ flat-at w xs (h .1) r q l)
+same→eq : (xs ys : List ℕ) → T (same xs ys) → xs ≡ ys
+same→eq [] [] t = refl
+same→eq [] (y ∷ ys) t = absurd t
+same→eq (x ∷ xs) [] t = absurd t
+same→eq (x ∷ xs) (y ∷ ys) t =
+    let a = eqb x y in
+    let b = same xs ys in
+    rw (eqb→eq x y (and-left a b t), same→eq xs ys (and-right a b t))
+
+-- where a row stands at a place that is a function of its key, the row of a listed key is found there
+pub row-at : (place : ℕ → ℕ) (k : ℕ) (rows : List (List ℕ)) →
+    T (every (λ (i : ℕ) (r : List ℕ). same (getD rows (place (getD r 0 0)) []) r) 0 rows) → listed k rows ≡ true →
+    getD rows (place k) [] ≡ row k rows
+row-at place k rows t e =
+    ap (λ (n : ℕ). getD rows (place n) []) (sym (listed-key k rows e))
+    ∙ same→eq _ _ (listed-rule (λ (r : List ℕ). same (getD rows (place (getD r 0 0)) []) r) k rows 0 t e)
 
 -- ---- A list whose places have an arm each.
 
@@ -132,3 +142,24 @@ NoneOf (suc n) i = NoneOf n i × (i ≡ n → ⊥)
 pub none-of : (n i : ℕ) → NoneOf n i → n ≤ i
 none-of zero i h = omega arith
 none-of (suc n) i h = omega (arith, none-of n i (h .0), h .1)
+
+-- past the last row every column is 0
+pub past-rows : (rows : List (List ℕ)) (j : ℕ) {i : ℕ} → length rows ≤ i → getD (getD rows i []) j 0 ≡ 0
+past-rows rows j h = ap (λ (r : List ℕ). getD r j 0) (List·getD-eq-default rows [] h)
+
+-- ---- A table whose keys have an arm each.
+
+-- besides A, the key k is none of the rows'
+abbrev pub NoKey : Type 0 → ℕ → List (List ℕ) → Type 0
+NoKey A k [] = A
+NoKey A k (r ∷ rs) = NoKey (A × (k ≡ getD r 0 0 → ⊥)) k rs
+
+no-key : {A : Type 0} (k : ℕ) (rows : List (List ℕ)) → NoKey A k rows → A × (listed k rows ≡ false)
+no-key k [] a = (a, refl)
+no-key k (r ∷ rs) a = let h = no-key k rs a in (h .0 .0, simp (ne-eqb k (getD r 0 0) (h .0 .1)) (h .1))
+
+pub none-listed : (k : ℕ) (rows : List (List ℕ)) → NoKey (Unit {0}) k rows → listed k rows ≡ false
+none-listed k rows h = no-key k rows h .1
+
+pub none-cell : (k j : ℕ) (rows : List (List ℕ)) → NoKey (Unit {0}) k rows → cell k j rows ≡ 0
+none-cell k j rows h = unlisted-cell k j rows (none-listed k rows h)

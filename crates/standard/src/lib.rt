@@ -1,14 +1,16 @@
 // The tables of the codes: bars, concrete, steel, slenderness, mesh, spacing of links.
 ghost use mathlib.Core.Path.{_≡_};
-ghost use Prim.Native.Nat.{_≤_, _<_};
+ghost use mathlib.Core.Bool.{true};
+ghost use mathlib.Core.List.{[]};
+ghost use Prim.Native.Nat.{_≤_, _/_, _%_};
 ghost use lib.ListN.{getD};
 ghost use Rattle.quantity.specs.Unit.{millimetres, stressOf, stressOfTenths, stressOfHundredths};
-ghost use Rattle.standard.specs.Table.{listed};
+ghost use Rattle.standard.specs.Table.{row, cell, listed};
 ghost use Rattle.standard.specs.Bars.{bars, areaOf};
 ghost use Rattle.standard.specs.Concrete.{concretes, concreteOf};
 ghost use Rattle.standard.specs.Steel.{steels, steelOf, linkSteels, fyvOf};
 ghost use Rattle.standard.specs.Slenderness.{point};
-ghost use Rattle.standard.specs.Mesh.{multiple};
+ghost use Rattle.standard.specs.Mesh.{multiples, multiple};
 ghost use Rattle.standard.specs.Spacing.{byHeight, spacingLimit};
 use quantity::Length;
 use quantity::Stress;
@@ -32,13 +34,6 @@ pub struct Steel {
     pub depth: u32,
 }
 
-// The entry at i, and 0 past the end.
-fn entry(list: &[u32], i: usize) -> u32
-    ensures { λ r. ⌜ r ≡ getD (now (list .entry)) i 0 ⌝ }
-{
-    if i < list.len() { list[i] } else { 0 }
-}
-
 // Whether there is a bar of this diameter.
 fn is_diameter(diameter: u32) -> bool
     ensures { λ r. ⌜ r ≡ listed diameter bars ⌝ }
@@ -49,12 +44,20 @@ fn is_diameter(diameter: u32) -> bool
     }
 }
 
-// The area of one bar, in tenths of mm²: 0.7854·d² rounded; 0 where there is no such bar.
+// The area of a bar of the table, in tenths of mm²: 0.7854·d² rounded.
+pub fn bar_area(diameter: u32) -> u32
+    requires { ⌜ listed diameter bars ≡ true ⌝ }
+    ensures { λ r. ⌜ r ≡ areaOf diameter ⌝ }
+{
+    (7854 * diameter * diameter + 500) / 1000
+}
+
+// The same; 0 where there is no such bar.
 pub fn area_of(diameter: u32) -> u32
     ensures { λ r. ⌜ r ≡ areaOf diameter ⌝ }
 {
     if is_diameter(diameter) {
-        (7854 * diameter * diameter + 500) / 1000
+        bar_area(diameter)
     } else {
         0
     }
@@ -82,20 +85,80 @@ fn concrete_row(fc: u32, ft: u32, ftk: u32, ec: u32) -> Concrete
     }
 }
 
-// The rows are arms: a constant array would be made anew at each use.
+// The row of a grade in the table, and the number of rows where there is no such grade.
+fn grade_row(grade: u32) -> u32
+    ensures { λ r. ⌜ getD concretes r [] ≡ row grade concretes ⌝ }
+{
+    if is_grade(grade) { (grade - 20) / 5 } else { 7 }
+}
+
+// The columns of the table, by row. Arms of plain numbers compile to lookup tables; a constant array would be made anew at each use.
+// One more grade: a row in specs/Concrete.antt, an arm in each column; the grade in is_grade, the number of rows in grade_row.
+fn fc_at(i: u32) -> u32
+    ensures { λ r. ⌜ r ≡ getD (getD concretes i []) 1 0 ⌝ }
+{
+    match i {
+        0 => 96,
+        1 => 119,
+        2 => 143,
+        3 => 167,
+        4 => 191,
+        5 => 211,
+        6 => 231,
+        _ => 0,
+    }
+}
+
+fn ft_at(i: u32) -> u32
+    ensures { λ r. ⌜ r ≡ getD (getD concretes i []) 2 0 ⌝ }
+{
+    match i {
+        0 => 110,
+        1 => 127,
+        2 => 143,
+        3 => 157,
+        4 => 171,
+        5 => 180,
+        6 => 189,
+        _ => 0,
+    }
+}
+
+fn ftk_at(i: u32) -> u32
+    ensures { λ r. ⌜ r ≡ getD (getD concretes i []) 3 0 ⌝ }
+{
+    match i {
+        0 => 154,
+        1 => 178,
+        2 => 201,
+        3 => 220,
+        4 => 239,
+        5 => 251,
+        6 => 264,
+        _ => 0,
+    }
+}
+
+fn ec_at(i: u32) -> u32
+    ensures { λ r. ⌜ r ≡ getD (getD concretes i []) 4 0 ⌝ }
+{
+    match i {
+        0 => 25500,
+        1 => 28000,
+        2 => 30000,
+        3 => 31500,
+        4 => 32500,
+        5 => 33500,
+        6 => 34500,
+        _ => 0,
+    }
+}
+
 pub fn concrete_of(grade: u32) -> Concrete
     ensures { λ r. ⌜ r ≡ concreteOf grade ⌝ }
 {
-    match grade {
-        20 => concrete_row(96, 110, 154, 25500),
-        25 => concrete_row(119, 127, 178, 28000),
-        30 => concrete_row(143, 143, 201, 30000),
-        35 => concrete_row(167, 157, 220, 31500),
-        40 => concrete_row(191, 171, 239, 32500),
-        45 => concrete_row(211, 180, 251, 33500),
-        50 => concrete_row(231, 189, 264, 34500),
-        _ => concrete_row(0, 0, 0, 0),
-    }
+    let i = grade_row(grade);
+    concrete_row(fc_at(i), ft_at(i), ftk_at(i), ec_at(i))
 }
 
 // Whether there is such a steel of bars.
@@ -122,14 +185,67 @@ fn steel_row(fyk: u32, fy: u32, fyc: u32, axial: u32, depth: u32) -> Steel
     }
 }
 
+// The columns of the table, by code. One more steel: a row in specs/Steel.antt, an arm in each column and in is_steel.
+fn fyk_at(code: u32) -> u32
+    ensures { λ r. ⌜ r ≡ cell code 1 steels ⌝ }
+{
+    match code {
+        1 => 400,
+        2 => 500,
+        _ => 0,
+    }
+}
+
+fn fy_at(code: u32) -> u32
+    ensures { λ r. ⌜ r ≡ cell code 2 steels ⌝ }
+{
+    match code {
+        1 => 360,
+        2 => 435,
+        _ => 0,
+    }
+}
+
+fn fyc_at(code: u32) -> u32
+    ensures { λ r. ⌜ r ≡ cell code 3 steels ⌝ }
+{
+    match code {
+        1 => 360,
+        2 => 435,
+        _ => 0,
+    }
+}
+
+fn axial_at(code: u32) -> u32
+    ensures { λ r. ⌜ r ≡ cell code 4 steels ⌝ }
+{
+    match code {
+        1 => 360,
+        2 => 400,
+        _ => 0,
+    }
+}
+
+fn depth_at(code: u32) -> u32
+    ensures { λ r. ⌜ r ≡ cell code 5 steels ⌝ }
+{
+    match code {
+        1 => 52,
+        2 => 48,
+        _ => 0,
+    }
+}
+
 pub fn steel_of(code: u32) -> Steel
     ensures { λ r. ⌜ r ≡ steelOf code ⌝ }
 {
-    match code {
-        1 => steel_row(400, 360, 360, 360, 52),
-        2 => steel_row(500, 435, 435, 400, 48),
-        _ => steel_row(0, 0, 0, 0, 0),
-    }
+    steel_row(
+        fyk_at(code),
+        fy_at(code),
+        fyc_at(code),
+        axial_at(code),
+        depth_at(code),
+    )
 }
 
 // Whether there is such a steel of links.
@@ -185,28 +301,34 @@ pub fn point_at(i: u32) -> u32
     }
 }
 
-const MULTIPLES: [u32; 20] = [
-    45,
-    40,
-    35,
-    32,
-    30,
-    32,
-    28,
-    25,
-    22,
-    21,
-    55,
-    43,
-    43,
-    39,
-    36,
-    39,
-    34,
-    30,
-    27,
-    25,
-];
+// The table of multiples, row by row.
+fn multiple_at(i: usize) -> u32
+    ensures { λ r. ⌜ r ≡ getD (getD multiples (i / 5) []) (i % 5) 0 ⌝ }
+{
+    match i {
+        0 => 45,
+        1 => 40,
+        2 => 35,
+        3 => 32,
+        4 => 30,
+        5 => 32,
+        6 => 28,
+        7 => 25,
+        8 => 22,
+        9 => 21,
+        10 => 55,
+        11 => 43,
+        12 => 43,
+        13 => 39,
+        14 => 36,
+        15 => 39,
+        16 => 34,
+        17 => 30,
+        18 => 27,
+        19 => 25,
+        _ => 0,
+    }
+}
 
 // The anchorage of a mesh as a multiple of the diameter.
 pub fn multiple_of(family: u32, cross: u32, grade: u32) -> u32
@@ -215,7 +337,7 @@ pub fn multiple_of(family: u32, cross: u32, grade: u32) -> u32
 {
     let row = 2 * (family - 1) + cross;
     let column = less(smaller(grade as u64, 40), 20) / 5;
-    entry(&MULTIPLES, 5 * (row as usize) + column as usize)
+    multiple_at(5 * (row as usize) + column as usize)
 }
 
 fn by_height(h: u64, a: u64, b: u64, c: u64, d: u64) -> u64

@@ -1,4 +1,5 @@
 -- `bars::group_area` meets its contract.
+use Rattle.standard.proofs.Bars.{area-listed}
 use Rattle.bars.specs.Sums.{groupArea}
 use Rattle.bars.proofs.Groups.{fits}
 use borrow.Author.Needs.{needs}
@@ -8,8 +9,8 @@ use Rattle.bars.proofs.group_area.Tie as tie
 wide-requires : tie.Need-wide-requires
 wide-requires c κs = search needs
 
-area-of-requires : tie.Need-area-of-requires
-area-of-requires c κs = search needs
+bar-area-requires : tie.Need-bar-area-requires
+bar-area-requires c κs = area-listed _ (c .before .pre .diameter .listed)
 
 wide-requires-2 : tie.Need-wide-requires-2
 wide-requires-2 c κs = search needs
@@ -19,8 +20,8 @@ mul-result c = record { fits = fits _ _ (search needs) (search needs) }
 
 returns : tie.Need-returns
 unfolding groupArea
-returns c = rw (c .before .before .wide .ensures, c .wide2 .ensures, c .before .area-of .ensures)
+returns c = rw (c .before .before .wide .ensures, c .wide2 .ensures, c .before .bar-area .ensures)
 
 pub group-area-spec : {M : Type 1} → statement M
 group-area-spec =
-    tie.close (tie.spec wide-requires area-of-requires wide-requires-2 mul-result returns)
+    tie.close (tie.spec wide-requires bar-area-requires wide-requires-2 mul-result returns)

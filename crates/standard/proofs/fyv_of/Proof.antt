@@ -1,6 +1,6 @@
 -- `standard::fyv_of` meets its contract: an arm for each row, the last for no row.
-use borrow.Author.Tests.{ne-eqb}
-use Rattle.standard.specs.Steel.{fyvOf}
+use Rattle.standard.specs.Steel.{linkSteels, fyvOf}
+use Rattle.standard.proofs.Table.{none-cell}
 use borrow.Author.Needs.{needs}
 use Rattle.standard.proofs.fyv_of.Statement.{statement}
 use Rattle.standard.proofs.fyv_of.Tie as tie
@@ -24,9 +24,7 @@ returns-2 c = rw (c .before .match .keys2) (c .of-units2 .ensures)
 
 returns-3 : tie.Need-returns-3
 unfolding fyvOf
-returns-3 c =
-    let r = c .before .match .rest in
-    simp (ne-eqb _ _ (r .0 .1), ne-eqb _ _ (r .1)) (c .of-units3 .ensures)
+returns-3 c = rw (none-cell (c .before .before .args .code) 1 linkSteels (c .before .match .rest)) (c .of-units3 .ensures)
 
 pub fyv-of-spec : {M : Type 1} → statement M
 fyv-of-spec =

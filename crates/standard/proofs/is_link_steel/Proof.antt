@@ -1,5 +1,7 @@
 -- `standard::is_link_steel` meets its contract.
-use borrow.Author.Tests.{ne-eqb}
+use mathlib.Core.Path.{sym}
+use Rattle.standard.specs.Steel.{linkSteels}
+use Rattle.standard.proofs.Table.{none-listed}
 use Rattle.standard.proofs.is_link_steel.Statement.{statement}
 use Rattle.standard.proofs.is_link_steel.Tie as tie
 
@@ -10,9 +12,7 @@ returns-2 : tie.Need-returns-2
 returns-2 c = rw (c .match .keys2)
 
 returns-3 : tie.Need-returns-3
-returns-3 c =
-    let r = c .match .rest in
-    simp (ne-eqb _ _ (r .0 .1), ne-eqb _ _ (r .1))
+returns-3 c = sym (none-listed _ linkSteels (c .match .rest))
 
 pub is-link-steel-spec : {M : Type 1} → statement M
 is-link-steel-spec = tie.close (tie.spec returns returns-2 returns-3)

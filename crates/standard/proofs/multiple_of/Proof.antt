@@ -19,24 +19,21 @@ smaller-requires c κs = search needs
 less-requires : tie.Need-less-requires
 less-requires c κs = search needs
 
-slice-aggregate-entry : tie.Need-slice-aggregate-entry
-slice-aggregate-entry c = search needs
+cast-multiple-at : tie.Need-cast-multiple-at
+cast-multiple-at c = search needs
 
-cast-entry : tie.Need-cast-entry
-cast-entry c = search needs
+mul-multiple-at : tie.Need-mul-multiple-at
+mul-multiple-at c = search needs
 
-mul-entry : tie.Need-mul-entry
-mul-entry c = search needs
+add-multiple-at : tie.Need-add-multiple-at
+add-multiple-at c = search needs
 
-add-entry : tie.Need-add-entry
-add-entry c = search needs
-
-entry-requires : tie.Need-entry-requires
-entry-requires c κs = search needs
+multiple-at-requires : tie.Need-multiple-at-requires
+multiple-at-requires c κs = search needs
 
 returns : tie.Need-returns
 returns c =
-    multiple-found _ _ _ _ _ _ (c .before .before .before .smaller .ensures) (c .before .before .less .ensures) (c .entry .ensures)
+    multiple-found _ _ _ _ _ _ (c .before .before .smaller .ensures) (c .before .less .ensures) (c .multiple-at .ensures)
 
 pub multiple-of-spec : {M : Type 1} → statement M
 multiple-of-spec =
@@ -47,9 +44,8 @@ multiple-of-spec =
     add-row
     smaller-requires
     less-requires
-    slice-aggregate-entry
-    cast-entry
-    mul-entry
-    add-entry
-    entry-requires
+    cast-multiple-at
+    mul-multiple-at
+    add-multiple-at
+    multiple-at-requires
     returns)

@@ -1,0 +1,14 @@
+-- `standard::axial_at` meets its contract: an arm for each row, the last for no row.
+use mathlib.Core.Path.{sym}
+use Rattle.standard.specs.Steel.{steels}
+use Rattle.standard.proofs.Table.{none-cell}
+use Rattle.standard.proofs.axial_at.Statement.{statement}
+use Rattle.standard.proofs.axial_at.Tie as tie
+
+pub axial-at-spec : {M : Type 1} → statement M
+axial-at-spec =
+    tie.close
+    (tie.spec
+    (λ c. rw (c .match .keys1))
+    (λ c. rw (c .match .keys2))
+    (λ c. sym (none-cell (c .before .args .code) 4 steels (c .match .rest))))
