@@ -26,24 +26,36 @@ fn passes(record: &Record, kind: u32) -> bool {
     record.kind == kind && record.read().is_some_and(|member| member.check().failed.is_none())
 }
 
-/// The inputs by name, with the number of members to divide by.
-fn inputs(random: &Random) -> Vec<(&'static str, Vec<u8>, usize)> {
+/// Schedules that one call after the other reads, and the members in all of them.
+struct Input {
+    name: &'static str,
+    schedules: Vec<Vec<u8>>,
+    members: usize,
+}
+
+fn inputs(random: &Random) -> Vec<Input> {
     let mixed = encode(&chosen(random, 500, |_| true));
     let of_kind = |kind, count| encode(&chosen(random, count, |record| passes(record, kind)));
     let mut many = mixed.clone();
     many[0] |= 0x7f;
     let mut unfinished = mixed.clone();
     *unfinished.last_mut().expect("not empty") |= 0x80;
+    let one = |name, schedule, members| Input { name, schedules: vec![schedule], members };
     vec![
-        ("(a) 500 members of mixed kinds", mixed, 500),
-        ("(b) 1 beam, OK", of_kind(1, 1), 1),
-        ("(b) 1 column, OK", of_kind(2, 1), 1),
-        ("(b) 1 mesh, OK", of_kind(3, 1), 1),
-        ("(c) refused at the count (511)", many, 1),
-        ("(d) 500 members, refused at the last byte", unfinished, 500),
-        ("(e) 500 beams, OK", of_kind(1, 500), 500),
-        ("(f) 500 columns, OK", of_kind(2, 500), 500),
-        ("(g) 500 meshes, OK", of_kind(3, 500), 500),
+        one("(a) 500 members of mixed kinds", mixed, 500),
+        one("(b) 1 beam, OK", of_kind(1, 1), 1),
+        one("(b) 1 column, OK", of_kind(2, 1), 1),
+        one("(b) 1 mesh, OK", of_kind(3, 1), 1),
+        one("(c) refused at the count (511)", many, 1),
+        one("(d) 500 members, refused at the last byte", unfinished, 500),
+        one("(e) 500 beams, OK", of_kind(1, 500), 500),
+        one("(f) 500 columns, OK", of_kind(2, 500), 500),
+        one("(g) 500 meshes, OK", of_kind(3, 500), 500),
+        Input {
+            name: "(h) 20 schedules as (a), one after the other",
+            schedules: (0..20).map(|_| encode(&chosen(random, 500, |_| true))).collect(),
+            members: 10_000,
+        },
     ]
 }
 
@@ -62,17 +74,18 @@ fn print_row(name: &str, members: usize, timing: &Timing) {
     );
 }
 
-fn time_schedule(name: &str, bytes: &[u8], members: usize) {
+fn read_all(checker: &dyn Checker, schedules: &[Vec<u8>], out: &mut [u8]) {
+    for bytes in schedules {
+        let _ = black_box(checker.report(black_box(bytes), black_box(out)));
+    }
+}
+
+fn time_schedules(input: &Input) {
     let (mut left, mut right) = (vec![0; ROOM], vec![0; ROOM]);
-    let timing = interleaved(
-        &mut || {
-            let _ = black_box(Library.report(black_box(bytes), black_box(&mut left)));
-        },
-        &mut || {
-            let _ = black_box(Model.report(black_box(bytes), black_box(&mut right)));
-        },
-    );
-    print_row(name, members, &timing);
+    let timing = interleaved(&mut || read_all(&Library, &input.schedules, &mut left), &mut || {
+        read_all(&Model, &input.schedules, &mut right)
+    });
+    print_row(input.name, input.members, &timing);
 }
 
 fn time_built(name: &str, record: &Record) {
@@ -92,19 +105,21 @@ fn time_built(name: &str, record: &Record) {
     print_row(&format!("built {name}, utilization"), 1, &timing);
 }
 
-fn print_stack(schedules: &[(&str, Vec<u8>, usize)], records: &[(&str, Record)]) {
+fn print_stack(inputs: &[Input], records: &[(&str, Record)]) {
     let mut out = vec![0; ROOM];
     println!("\nstack overwritten by a call, bytes (the caller's frame included)");
     println!("{:44} {:>12} {:>12}", "", "library", "model");
     let empty = stack_use(&mut || ());
     println!("{:44} {empty:12} {empty:12}", "no call");
-    for (name, bytes, _) in schedules {
+    for input in inputs {
         let mut of = |checker: &dyn Checker| {
             stack_use(&mut || {
-                let _ = black_box(checker.report(bytes, &mut out));
+                for bytes in &input.schedules {
+                    let _ = black_box(checker.report(bytes, &mut out));
+                }
             })
         };
-        println!("{name:44} {:12} {:12}", of(&Library), of(&Model));
+        println!("{:44} {:12} {:12}", input.name, of(&Library), of(&Model));
     }
     for (name, record) in records {
         let (built, first, second) = (record.built(), &record.first, &record.second);
@@ -126,11 +141,11 @@ fn print_stack(schedules: &[(&str, Vec<u8>, usize)], records: &[(&str, Record)])
 
 fn main() {
     let random = Random::new(1);
-    let schedules = inputs(&random);
+    let inputs = inputs(&random);
     let one = |kind| chosen(&random, 1, |record| passes(record, kind)).remove(0);
     let records = [("beam", one(1)), ("column", one(2)), ("mesh", one(3))];
     let mut comparison = Comparison::new(Library, &random);
-    for (_, bytes, _) in &schedules {
+    for bytes in inputs.iter().flat_map(|input| &input.schedules) {
         comparison.schedule(bytes).expect("equal outputs");
     }
     for (_, record) in &records {
@@ -143,11 +158,11 @@ fn main() {
         "{:44} {:>11} {:>11} {:>9} {:>9} {:>6} {:>11} {:>11} {:>6}",
         "", "library", "model", "/member", "/member", "ratio", "library", "model", "ratio"
     );
-    for (name, bytes, members) in &schedules {
-        time_schedule(name, bytes, *members);
+    for input in &inputs {
+        time_schedules(input);
     }
     for (name, record) in &records {
         time_built(name, record);
     }
-    print_stack(&schedules, &records);
+    print_stack(&inputs, &records);
 }
