@@ -88,24 +88,32 @@ fn time_schedules(input: &Input) {
     print_row(input.name, input.members, &timing);
 }
 
-fn time_built(name: &str, record: &Record) {
-    let (mut left, mut right) = ([0; 200], [0; 200]);
-    let built = record.built();
-    let line = |checker: &dyn Checker, out: &mut [u8]| {
-        let built = black_box(&built);
-        let _ = black_box(checker.member_report(built, &record.first, &record.second, out));
-    };
-    let timing = interleaved(&mut || line(&Library, &mut left), &mut || line(&Model, &mut right));
-    print_row(&format!("built {name}, line"), 1, &timing);
-    let share = |checker: &dyn Checker| {
-        let built = black_box(&built);
-        black_box(checker.member_utilization(built, &record.first, &record.second));
-    };
-    let timing = interleaved(&mut || share(&Library), &mut || share(&Model));
-    print_row(&format!("built {name}, utilization"), 1, &timing);
+/// Members that a caller built, one after the other.
+struct Members {
+    name: &'static str,
+    records: Vec<Record>,
 }
 
-fn print_stack(inputs: &[Input], records: &[(&str, Record)]) {
+fn time_built(members: &Members) {
+    let (mut left, mut right) = ([0; 200], [0; 200]);
+    let built: Vec<_> = members.records.iter().map(|record| (record, record.built())).collect();
+    let lines = |checker: &dyn Checker, out: &mut [u8]| {
+        for (record, built) in black_box(&built) {
+            let _ = black_box(checker.member_report(built, &record.first, &record.second, out));
+        }
+    };
+    let timing = interleaved(&mut || lines(&Library, &mut left), &mut || lines(&Model, &mut right));
+    print_row(&format!("{}, line", members.name), built.len(), &timing);
+    let utilizations = |checker: &dyn Checker| {
+        for (record, built) in black_box(&built) {
+            black_box(checker.member_utilization(built, &record.first, &record.second));
+        }
+    };
+    let timing = interleaved(&mut || utilizations(&Library), &mut || utilizations(&Model));
+    print_row(&format!("{}, utilization", members.name), built.len(), &timing);
+}
+
+fn print_stack(inputs: &[Input], members: &[Members]) {
     let mut out = vec![0; ROOM];
     println!("\nstack overwritten by a call, bytes (the caller's frame included)");
     println!("{:44} {:>12} {:>12}", "", "library", "model");
@@ -113,42 +121,48 @@ fn print_stack(inputs: &[Input], records: &[(&str, Record)]) {
     println!("{:44} {empty:12} {empty:12}", "no call");
     for input in inputs {
         let mut of = |checker: &dyn Checker| {
-            stack_use(&mut || {
-                for bytes in &input.schedules {
-                    let _ = black_box(checker.report(bytes, &mut out));
-                }
-            })
+            stack_use(&mut || read_all(checker, &input.schedules, &mut out))
         };
         println!("{:44} {:12} {:12}", input.name, of(&Library), of(&Model));
     }
-    for (name, record) in records {
+    for Members { name, records } in members {
+        let record = &records[0];
         let (built, first, second) = (record.built(), &record.first, &record.second);
         let mut of = |checker: &dyn Checker| {
             stack_use(&mut || {
                 let _ = black_box(checker.member_report(&built, first, second, &mut out));
             })
         };
-        println!("built {name:38} {:12} {:12}", of(&Library), of(&Model));
+        println!("{:44} {:12} {:12}", format!("{name}, line"), of(&Library), of(&Model));
         let of = |checker: &dyn Checker| {
             stack_use(&mut || {
                 black_box(checker.member_utilization(&built, first, second));
             })
         };
-        let name = format!("built {name}, utilization");
-        println!("{name:44} {:12} {:12}", of(&Library), of(&Model));
+        println!("{:44} {:12} {:12}", format!("{name}, utilization"), of(&Library), of(&Model));
     }
 }
 
 fn main() {
     let random = Random::new(1);
     let inputs = inputs(&random);
-    let one = |kind| chosen(&random, 1, |record| passes(record, kind)).remove(0);
-    let records = [("beam", one(1)), ("column", one(2)), ("mesh", one(3))];
+    let built = |name, kind, count| Members {
+        name,
+        records: chosen(&random, count, |record| passes(record, kind)),
+    };
+    let members = [
+        built("1 built beam", 1, 1),
+        built("1 built column", 2, 1),
+        built("1 built mesh", 3, 1),
+        built("500 built beams", 1, 500),
+        built("500 built columns", 2, 500),
+        built("500 built meshes", 3, 500),
+    ];
     let mut comparison = Comparison::new(Library, &random);
     for bytes in inputs.iter().flat_map(|input| &input.schedules) {
         comparison.schedule(bytes).expect("equal outputs");
     }
-    for (_, record) in &records {
+    for record in members.iter().flat_map(|members| &members.records) {
         comparison.built(record).expect("equal outputs");
     }
     println!("outputs are equal; short rounds, interleaved; no buffer is cleared between calls");
@@ -161,8 +175,8 @@ fn main() {
     for input in &inputs {
         time_schedules(input);
     }
-    for (name, record) in &records {
-        time_built(name, record);
+    for members in &members {
+        time_built(members);
     }
-    print_stack(&inputs, &records);
+    print_stack(&inputs, &members[..3]);
 }
