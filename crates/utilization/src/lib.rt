@@ -4,7 +4,7 @@ ghost use Prim.Native.Nat.{_<_, _^_};
 ghost use Rattle.member.specs.Member.{columnOf, meshOf};
 ghost use Rattle.member.specs.Accepted.{AcceptedColumn, AcceptedMesh, AcceptedMember};
 ghost use Rattle.section.specs.Bounded.{Bounded};
-ghost use Rattle.built.specs.Slots.{memberOf};
+ghost use Rattle.built.specs.Slots.{memberAt};
 ghost use Rattle.ratio.specs.Ratio.{quotient, ExactFigures};
 ghost use Rattle.utilization.specs.Utilization.{deflectionLimit, beamUtilization, columnUtilization, meshUtilization, utilizationOf};
 ghost use Rattle.utilization.specs.Utilized.{Utilized};
@@ -88,16 +88,14 @@ fn mesh_utilization(x: Mesh, o: Outcome) -> Utilization
 }
 
 // Of an accepted member with this outcome.
-fn member_utilization(x: Built, o: Outcome) -> Utilization
-    requires { ⌜ (AcceptedMember (memberOf x)) × (ExactFigures o) ⌝ }
-    ensures { λ r. ⌜ r ≡ utilizationOf quotient (memberOf x) o ⌝ }
+fn member_utilization(mark: u32, kind: u32, v: &[u32; 40], o: Outcome) -> Utilization
+    requires { ⌜ (AcceptedMember (memberAt mark kind (now v))) × (ExactFigures o) ⌝ }
+    ensures { λ r. ⌜ r ≡ utilizationOf quotient (memberAt mark kind (now (v .entry))) o ⌝ }
 {
-    let v = x.fields.v;
-    let kind = x.kind;
     match kind {
-        1 => beam_utilization(section_of(beam_of(&v)), o),
-        2 => column_utilization(column_of(&v), o),
-        _ => mesh_utilization(mesh_of(&v), o),
+        1 => beam_utilization(section_of(beam_of(v)), o),
+        2 => column_utilization(column_of(v), o),
+        _ => mesh_utilization(mesh_of(v), o),
     }
 }
 
@@ -111,6 +109,9 @@ pub fn utilization_of(x: Built) -> Answer
             question: q,
             member: 1,
         }),
-        Verdict::Accepted => Answer::Given(member_utilization(x, check_member(x.mark, x.kind, &v))),
+        Verdict::Accepted => {
+            let o = check_member(x.mark, x.kind, &v);
+            Answer::Given(member_utilization(x.mark, x.kind, &v, o))
+        }
     }
 }

@@ -20,15 +20,16 @@ check-member-requires c κs = accepted-built _ _ _ (sym (c .before .before .befo
 
 member-utilization-requires : tie.Need-member-utilization-requires
 member-utilization-requires c κs =
-    let t = c .before .before in
-    accepted-exact _ (sym (t .before .before .built-verdict .ensures) ∙ t .enum-told .given .1) (c .check-member .ensures)
+    let k = c .before in
+    let t = k .before .before in
+    accepted-exact _ (sym (t .before .before .built-verdict .ensures) ∙ t .enum-told .given .1) (k .check-member .ensures)
 
 returns : tie.Need-returns
 returns c = refused _ _ (sym (c .before .before .before .built-verdict .ensures) ∙ c .before .q .given .1) refl
 
 returns-2 : tie.Need-returns-2
 returns-2 c =
-    let k = c .before in
+    let k = c .before .before in
     let t = k .before .before in
     given _ (sym (t .before .before .built-verdict .ensures) ∙ t .enum-told .given .1) (rw (c .member-utilization .ensures, k .check-member .ensures))
 
