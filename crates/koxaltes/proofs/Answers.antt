@@ -5,8 +5,9 @@ use mathlib.Core.List.{List}
 use Rattle.bars.specs.declared.Group.{Group}
 use Rattle.built.specs.declared.Built.{Built}
 use Rattle.built.specs.Slots.{memberOf}
+use Rattle.lists.specs.Lists.{four}
 use Rattle.lent.specs.declared.Lent.{Lent}
-use Rattle.lent.specs.Lent.{four, lentSlots, builtOf, lentMember}
+use Rattle.lent.specs.Lent.{lentSlots, builtOf, lentMember}
 use Rattle.lent.proofs.Counts.{lent-verdict}
 use Rattle.printed.specs.declared.Answer.{Answer}
 use Rattle.report.specs.Report.{memberReportOf}

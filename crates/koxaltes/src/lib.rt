@@ -8,7 +8,7 @@ ghost use Rattle.koxaltes.specs.Utilized.{lentUtilizationOf, MemberUtili
 use bars::Group;
 use lent::Lent;
 use lent::built_from;
-use lent::first_four;
+use lists::first_four;
 use report::member_report;
 use report::report;
 use told::Told;

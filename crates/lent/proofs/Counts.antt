@@ -1,16 +1,14 @@
 -- A count above the length of its list is a no to 7 without a test of its own: a group that is missing is copied out with diameter 0, and no bar of the table has that.
-use Prim.Native.Nat.{ℕ, zero, suc, _≤_, _<_}
+use Prim.Native.Nat.{ℕ, _≤_, _<_}
 use mathlib.Core.Path.{_≡_, refl, ap}
 use mathlib.Core.Bool.{Bool, true, false, _&&_}
-use mathlib.Core.List.{List, [], _∷_}
+use mathlib.Core.List.{List}
 use mathlib.Core.Logic.{⊎-elim}
-use native.Mathlib.Omega.{arith}
 use lib.Dec.{ltb→lt}
 use lib.ListN.{length, getD, take}
 use borrow.Author.Tests.{le-leb}
 use Rattle.question.specs.declared.Question.the-variants.{Mark, Kind, Field}
 use Rattle.bars.specs.declared.Group.{Group}
-use Rattle.bars.specs.Accepted.{AcceptedGroup, AcceptedGroups}
 use Rattle.domain.specs.declared.Domain.{Domain}
 use Rattle.domain.specs.declared.Domain.the-variants.{Range}
 use Rattle.domain.specs.Domain.{holds, asked, fieldHolds}
@@ -21,37 +19,9 @@ use Rattle.built.specs.declared.Verdict.{Verdict}
 use Rattle.built.specs.Slots.{slot, beamAt, columnAt}
 use Rattle.built.specs.Verdict.{ask, markInRange, memberVerdict, builtVerdict}
 use Rattle.built.proofs.Accepted.{hold-at, known-cases, tension-accepted, compression-accepted, column-groups-accepted}
+use Rattle.lists.proofs.Firsts.{all-there, first-groups}
 use Rattle.lent.specs.declared.Lent.{Lent}
-use Rattle.lent.specs.Lent.{noGroup, four, beamSlots, columnSlots, filled, lentSlots, slotsOf, countsHold, lentVerdict}
-
--- a missing group is not accepted
-not-a-group : {P : Type 0} → AcceptedGroup noGroup → P
-not-a-group a = absurd (omega (arith, a .diameter .least))
-
--- groups that are accepted are all in their list
-all-there : (n : ℕ) (gs : List Group) → n ≤ 4 → AcceptedGroups (take n (four gs)) → n ≤ length gs
-all-there zero gs h a = omega arith
-all-there (suc n) [] h a = not-a-group (a .0)
-all-there (suc zero) (g₀ ∷ gs) h a = omega arith
-all-there (suc (suc n)) (g₀ ∷ []) h a = not-a-group (a .1 .0)
-all-there (suc (suc zero)) (g₀ ∷ g₁ ∷ gs) h a = omega arith
-all-there (suc (suc (suc n))) (g₀ ∷ g₁ ∷ []) h a = not-a-group (a .1 .1 .0)
-all-there (suc (suc (suc zero))) (g₀ ∷ g₁ ∷ g₂ ∷ gs) h a = omega arith
-all-there (suc (suc (suc (suc n)))) (g₀ ∷ g₁ ∷ g₂ ∷ []) h a = not-a-group (a .1 .1 .1 .0)
-all-there (suc (suc (suc (suc n)))) (g₀ ∷ g₁ ∷ g₂ ∷ g₃ ∷ gs) h a = omega arith
-
--- the first n of a list that has them are those of its first four, for n up to 4
-pub first-groups : (n : ℕ) (gs : List Group) → n ≤ 4 → n ≤ length gs → take n (four gs) ≡ take n gs
-first-groups zero gs h l = refl
-first-groups (suc n) [] h l = absurd (omega arith)
-first-groups (suc zero) (g₀ ∷ gs) h l = refl
-first-groups (suc (suc n)) (g₀ ∷ []) h l = absurd (omega arith)
-first-groups (suc (suc zero)) (g₀ ∷ g₁ ∷ gs) h l = refl
-first-groups (suc (suc (suc n))) (g₀ ∷ g₁ ∷ []) h l = absurd (omega arith)
-first-groups (suc (suc (suc zero))) (g₀ ∷ g₁ ∷ g₂ ∷ gs) h l = refl
-first-groups (suc (suc (suc (suc n)))) (g₀ ∷ g₁ ∷ g₂ ∷ []) h l = absurd (omega arith)
-first-groups (suc (suc (suc (suc zero)))) (g₀ ∷ g₁ ∷ g₂ ∷ g₃ ∷ gs) h l = refl
-first-groups (suc (suc (suc (suc (suc n))))) (g₀ ∷ g₁ ∷ g₂ ∷ g₃ ∷ gs) h l = absurd (omega arith)
+use Rattle.lent.specs.Lent.{beamSlots, columnSlots, filled, lentSlots, slotsOf, countsHold, lentVerdict}
 
 both-hold : {a b : Bool} → a ≡ true → b ≡ true → (a && b) ≡ true
 both-hold p q = rw (p, q)

@@ -1,4 +1,3 @@
 pub mod Placed
 pub mod Counts
-pub mod Copies
 pub mod Unread

@@ -17,8 +17,9 @@ use Rattle.domain.specs.Domain.{asked}
 use Rattle.field.specs.Fields.{groups, beamFields, columnFields, fieldsOf, known}
 use Rattle.built.specs.Slots.{slot}
 use Rattle.built.proofs.Unread.{Agree, built-same, member-same}
+use Rattle.lists.specs.Lists.{noGroup, four}
 use Rattle.lent.specs.declared.Lent.{Lent}
-use Rattle.lent.specs.Lent.{noGroup, four, flat, part, beamSlots, columnSlots, filled, lentSlots, slotsOf, lentMember, lentVerdict}
+use Rattle.lent.specs.Lent.{flat, part, beamSlots, columnSlots, filled, lentSlots, slotsOf, lentMember, lentVerdict}
 use Rattle.lent.proofs.Counts.{lent-verdict}
 
 -- ---- Fields one by one.

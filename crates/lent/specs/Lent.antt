@@ -3,7 +3,7 @@ use Prim.Native.Nat.{ℕ, zero, suc}
 use mathlib.Core.Bool.{Bool, true, _&&_}
 use mathlib.Core.List.{List, [], _∷_, _++_}
 use lib.Dec.{eqb, leb}
-use lib.ListN.{length, getD, drop, replicate}
+use lib.ListN.{length, drop, replicate}
 use Rattle.quantity.specs.Choice.{if_then_else_}
 use Rattle.question.specs.declared.Question.the-variants.{Mark, Kind, Field}
 use Rattle.bars.specs.declared.Group.{Group}
@@ -14,15 +14,8 @@ use Rattle.built.specs.declared.Built.{Built}
 use Rattle.built.specs.declared.Verdict.{Verdict}
 use Rattle.built.specs.Slots.{slot, memberAt}
 use Rattle.built.specs.Verdict.{ask, markInRange, memberVerdict}
+use Rattle.lists.specs.Lists.{four}
 use Rattle.lent.specs.declared.Lent.{Lent}
-
--- what stands for a group past the end of its list
-abbrev pub noGroup : Group
-noGroup = record { diameter = 0; bars = 0 }
-
--- the first four of a list
-abbrev pub four : List Group → List Group
-four gs = getD gs 0 noGroup ∷ getD gs 1 noGroup ∷ getD gs 2 noGroup ∷ getD gs 3 noGroup ∷ []
 
 -- groups as fields: the diameter and the bars of each
 abbrev pub flat : List Group → List ℕ

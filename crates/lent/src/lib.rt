@@ -1,14 +1,11 @@
 // A built member whose groups of bars are lent beside it as lists of records.
 ghost use mathlib.Core.Path.{_≡_};
 ghost use Prim.Native.Nat.{_+_, _≤_};
-ghost use lib.ListN.{length, getD, set, take};
+ghost use lib.ListN.{set};
 ghost use lib.Seq.{sets};
-ghost use Rattle.bars.specs.Accepted.{AcceptedGroups};
-ghost use Rattle.bars.specs.Sums.{TotalsOf};
-ghost use Rattle.lent.specs.Lent.{noGroup, four, flat, part, beamSlots, columnSlots, meshSlots, filled, lentSlots, builtOf};
+ghost use Rattle.lists.specs.Lists.{four};
+ghost use Rattle.lent.specs.Lent.{flat, part, beamSlots, columnSlots, meshSlots, filled, lentSlots, builtOf};
 use bars::Group;
-use bars::Totals;
-use bars::totals_of;
 use built::Built;
 use slots::Slots;
 
@@ -24,40 +21,6 @@ pub struct Lent {
     pub mark: u32,
     pub kind: u32,
     pub fields: Fields,
-}
-
-// Group i of a lent list, and no bars past its end.
-pub fn group_or(groups: &[Group], i: usize) -> Group
-    ensures { λ r. ⌜ r ≡ getD (now (groups .entry)) i noGroup ⌝ }
-{
-    if i < groups.len() {
-        groups[i]
-    } else {
-        Group {
-            diameter: 0,
-            bars: 0,
-        }
-    }
-}
-
-// The first four groups of a lent list.
-pub fn first_four(groups: &[Group]) -> [Group; 4]
-    ensures { λ r. ⌜ r ≡ four (now (groups .entry)) ⌝ }
-{
-    [
-        group_or(groups, 0),
-        group_or(groups, 1),
-        group_or(groups, 2),
-        group_or(groups, 3),
-    ]
-}
-
-// The totals of the first `count` groups of a lent list.
-pub fn lent_totals(groups: &[Group], count: usize) -> Totals
-    requires { ⌜ (count ≤ 4) × (count ≤ length (now groups)) × AcceptedGroups (take count (now groups)) ⌝ }
-    ensures { λ r. ⌜ TotalsOf (take count (now (groups .entry))) r ⌝ }
-{
-    totals_of(first_four(groups), count)
 }
 
 // The slots from `at` on hold `count` fields from field `from` on.

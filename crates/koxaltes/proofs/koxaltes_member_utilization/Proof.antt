@@ -38,14 +38,15 @@ use Rattle.bars.proofs.Group as G
 use Rattle.bars.proofs.Group.Laws as G′
 use Rattle.built.specs.Slots.{memberOf}
 use Rattle.utilization.specs.Utilized.{answerOf}
+use Rattle.lists.specs.Lists.{four}
+use Rattle.lists.proofs.Copies.{Four, Copied, to-copied, goes-copied, copies, copied-said}
+use Rattle.lists.proofs.first_four.Symbol as copied-def
+use Rattle.lists.proofs.first_four.Symbol.{name as #lists·first-four}
+use Rattle.lists.proofs.first_four.Met as copied-thm
 use Rattle.lent.specs.declared.Lent.{Lent}
-use Rattle.lent.specs.Lent.{four, builtOf, lentMember}
+use Rattle.lent.specs.Lent.{builtOf, lentMember}
 use Rattle.lent.proofs.Lent as L
 use Rattle.lent.proofs.Lent.Laws as L′
-use Rattle.lent.proofs.Copies.{Four, Copied, to-copied, goes-copied, copies, copied-said}
-use Rattle.lent.proofs.first_four.Symbol as copied-def
-use Rattle.lent.proofs.first_four.Symbol.{name as #lent·first-four}
-use Rattle.lent.proofs.first_four.Met as copied-thm
 use Rattle.told.specs.declared.UtilizationTold.{UtilizationTold}
 use Rattle.koxaltes.specs.Utilized.{lentUtilizationOf, MemberUtilized}
 use Rattle.koxaltes.proofs.Utilized.{lent-utilized}
@@ -128,7 +129,7 @@ module _ {M : Type 1} (𝓤 : URA M) (H : Heap 𝓤) (A : Atoms 𝓤) (W : Given
       nothing ! $ move ! (2 ∷ 0 ∷ []) $ fjoin ! $ move ! (2 ∷ 0 ∷ []) $ fjoin ! $
       owned ! L.the-row (Is L.the-row) (LL.makes L.the-type L′.the-plain 𝓤 H A) x (v ∷ []) x-is $ fjoin ! $ frame ! $ done !
 
-  module _ (C : Calls 𝓤 H) (Λ : Loops 𝓤 H) (fm : FmC 𝓤 H (W .laws) C) (known-copied : Triple 𝓤 (C #lent·first-four) (Copied 𝓤 H A W mem run)) (known-inner : Triple 𝓤 (C #koxaltes·tell-member-utilization) (Inner 𝓤 H A mem run)) where
+  module _ (C : Calls 𝓤 H) (Λ : Loops 𝓤 H) (fm : FmC 𝓤 H (W .laws) C) (known-copied : Triple 𝓤 (C #lists·first-four) (Copied 𝓤 H A W mem run)) (known-inner : Triple 𝓤 (C #koxaltes·tell-member-utilization) (Inner 𝓤 H A mem run)) where
     walk : Is (ShrSlice (named 0) κ₁ G.the-row) s₁ (v₁ ∷ []) → Is (ShrSlice (named 1) κ₂ G.the-row) s₂ (v₂ ∷ [])
         → ent 𝓤 (onEntry 𝓤 H A self.signature κs qs (x, (s₁, (s₂, tt))) at) (WpFn 𝓤 H C Λ code.function (v ∷ v₁ ∷ v₂ ∷ []) Post)
     walk p₁ p₂ =
@@ -166,7 +167,7 @@ module _ {M : Type 1} (𝓤 : URA M) (H : Heap 𝓤) (A : Atoms 𝓤) (W : Given
         by ! (exits r u (lent-utilized x (now s₁) (now s₂) e₁ e₂ e))))))))))))))))))))
 
 module _ {M : Type 1} (𝓤 : URA M) (H : Heap 𝓤) (A : Atoms 𝓤) (W : Given 𝓤 H A) (mem : Memory → SProp 𝓤) (run : Routine → Fun 𝓤) where
-  walks : (C : Calls 𝓤 H) (Λ : Loops 𝓤 H) → FmC 𝓤 H (W .laws) C → Triple 𝓤 (C #lent·first-four) (Copied 𝓤 H A W mem run) → Triple 𝓤 (C #koxaltes·tell-member-utilization) (Inner 𝓤 H A mem run)
+  walks : (C : Calls 𝓤 H) (Λ : Loops 𝓤 H) → FmC 𝓤 H (W .laws) C → Triple 𝓤 (C #lists·first-four) (Copied 𝓤 H A W mem run) → Triple 𝓤 (C #koxaltes·tell-member-utilization) (Inner 𝓤 H A mem run)
       → Walks 𝓤 H A self.ended stayed (WpFn 𝓤 H C Λ code.function) (self.clauses 𝓤 H A mem run)
   walks C Λ fm known-copied known-inner = walked 𝓤 H A self.ended stayed (self.clauses 𝓤 H A mem run) (WpFn 𝓤 H C Λ code.function)
       (λ κs. (LL.vals L.the-type L′.the-laws, (slice-vals, (slice-vals, tt))))
@@ -175,7 +176,7 @@ module _ {M : Type 1} (𝓤 : URA M) (H : Heap 𝓤) (A : Atoms 𝓤) (W : Given
       (walk 𝓤 H A W mem run (κs .0) (κs .1 .0) (qs .0) (qs .1 .0) (a .0) _ (are .0) (a .1 .0) (a .1 .1 .0) C Λ fm known-copied known-inner (are .1 .0) (are .1 .1 .0)))
 
 meets : {M : Type 1} (𝓤 : URA M) (H : Heap 𝓤) (A : Atoms 𝓤) (W : Given 𝓤 H A) (mem : Memory → SProp 𝓤) (run : Routine → Fun 𝓤) (𝓣 : Tables 𝓤 H)
-    → Triple 𝓤 (𝓣 .C #lent·first-four) (Copied 𝓤 H A W mem run) → Triple 𝓤 (𝓣 .C #koxaltes·tell-member-utilization) (Inner 𝓤 H A mem run)
+    → Triple 𝓤 (𝓣 .C #lists·first-four) (Copied 𝓤 H A W mem run) → Triple 𝓤 (𝓣 .C #koxaltes·tell-member-utilization) (Inner 𝓤 H A mem run)
     → Meets 𝓤 H A self.signature (WpFn 𝓤 H (𝓣 .C) (𝓣 .Λ) code.function) (self.spec 𝓤 H A mem run)
 meets 𝓤 H A W mem run 𝓣 known-copied known-inner =
     walk-meets 𝓤 H A self.ended stayed W (
@@ -194,5 +195,5 @@ koxaltes-member-utilization-spec 𝓤 H 𝓜 𝓖 𝓡 =
     entered 𝓤 H (tripleOf 𝓤 H (𝓖 .A) self.signature (self.spec 𝓤 H (𝓖 .A) (𝓜 .mem) (𝓡 .run)))
     (tables 𝓤 H 𝓜 𝓡 code.env .C) (tables 𝓤 H 𝓜 𝓡 code.env .Λ) #koxaltes·koxaltes-member-utilization code.function (code.unfolded 𝓤 H 𝓜 𝓡)
     (meets 𝓤 H (𝓖 .A) (givenOf 𝓤 H 𝓜 𝓖) (𝓜 .mem) (𝓡 .run) (tablesOf 𝓤 H 𝓜 (tables 𝓤 H 𝓜 𝓡 code.env))
-    (cited 𝓤 H (Copied 𝓤 H (𝓖 .A) (givenOf 𝓤 H 𝓜 𝓖) (𝓜 .mem) (𝓡 .run)) 𝓜 𝓡 code.env #lent·first-four copied-def.routine code.calls-lent·first-four (copied-thm.met 𝓤 H 𝓜 𝓖 𝓡))
+    (cited 𝓤 H (Copied 𝓤 H (𝓖 .A) (givenOf 𝓤 H 𝓜 𝓖) (𝓜 .mem) (𝓡 .run)) 𝓜 𝓡 code.env #lists·first-four copied-def.routine code.calls-lists·first-four (copied-thm.met 𝓤 H 𝓜 𝓖 𝓡))
     (cited 𝓤 H (Inner 𝓤 H (𝓖 .A) (𝓜 .mem) (𝓡 .run)) 𝓜 𝓡 code.env #koxaltes·tell-member-utilization inner-def.routine code.calls-koxaltes·tell-member-utilization (inner-thm.met 𝓤 H 𝓜 𝓖 𝓡)))

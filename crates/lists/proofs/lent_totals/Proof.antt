@@ -47,16 +47,16 @@ use Rattle.bars.proofs.totals_of as inner
 use Rattle.bars.proofs.totals_of.Symbol as inner-def
 use Rattle.bars.proofs.totals_of.Symbol.{name as #bars·totals-of}
 use Rattle.bars.proofs.totals_of.Met as inner-thm
-use Rattle.lent.specs.Lent.{four}
-use Rattle.lent.proofs.Counts.{first-groups}
-use Rattle.lent.proofs.Copies.{Four, Copied, to-copied, goes-copied, copies, copied-said}
-use Rattle.lent.proofs.first_four.Symbol as copied-def
-use Rattle.lent.proofs.first_four.Symbol.{name as #lent·first-four}
-use Rattle.lent.proofs.first_four.Met as copied-thm
-use Rattle.lent.proofs.lent_totals.Key.{name as #lent·lent-totals}
-use Rattle.lent.proofs.lent_totals as self
-use Rattle.lent.proofs.lent_totals.Statement as stated
-use Rattle.lent.proofs.lent_totals.Code as code
+use Rattle.lists.specs.Lists.{four}
+use Rattle.lists.proofs.Firsts.{first-groups}
+use Rattle.lists.proofs.Copies.{Four, Copied, to-copied, goes-copied, copies, copied-said}
+use Rattle.lists.proofs.first_four.Symbol as copied-def
+use Rattle.lists.proofs.first_four.Symbol.{name as #lists·first-four}
+use Rattle.lists.proofs.first_four.Met as copied-thm
+use Rattle.lists.proofs.lent_totals.Key.{name as #lists·lent-totals}
+use Rattle.lists.proofs.lent_totals as self
+use Rattle.lists.proofs.lent_totals.Statement as stated
+use Rattle.lists.proofs.lent_totals.Code as code
 
 abbrev stayed : Stays (self.ended .signature .params) (self.ended .kept)
 stayed = (stay-none-slice (0 ∷ []) tt (plain (λ _. G.the-row)) yes, (stay-none (λ _. usize) yes, tt))
@@ -101,7 +101,7 @@ module _ {M : Type 1} (𝓤 : URA M) (H : Heap 𝓤) (A : Atoms 𝓤) (W : Given
       suffices ! _ (ends-at 𝓤 H A self.ended stayed (self.clauses 𝓤 H A mem run) W (((κ, tt), (q, tt), tt, (s, (n, tt)), at), tt) u r (tt, (tt, tt)) (tt, (tt, tt))) $ says ! e $
       move ! (1 ∷ []) $ frame ! $ nothing ! $ owned ! usize (Is usize) (uint-makes 𝓤 H A W w64) n _ (refl, fits) $ fjoin ! $ move ! (2 ∷ 0 ∷ []) $ fjoin ! $ frame ! $ done !
 
-  module _ (C : Calls 𝓤 H) (Λ : Loops 𝓤 H) (fm : FmC 𝓤 H (W .laws) C) (known-copied : Triple 𝓤 (C #lent·first-four) (Copied 𝓤 H A W mem run)) (known-inner : Triple 𝓤 (C #bars·totals-of) (Inner 𝓤 H A mem run)) where
+  module _ (C : Calls 𝓤 H) (Λ : Loops 𝓤 H) (fm : FmC 𝓤 H (W .laws) C) (known-copied : Triple 𝓤 (C #lists·first-four) (Copied 𝓤 H A W mem run)) (known-inner : Triple 𝓤 (C #bars·totals-of) (Inner 𝓤 H A mem run)) where
     walk : Is (ShrSlice (named 0) κ G.the-row) s (v ∷ []) → Asked (now s) n → ent 𝓤 (onEntry 𝓤 H A self.signature (κ, tt) (q, tt) (s, (n, tt)) at) (WpFn 𝓤 H C Λ code.function (v ∷ vint w64 n ∷ []) Post)
     walk p h =
         qed W ((‵ (flft κ q) ⊛ ‵ ftrue) ∷ ‵ (owns (ShrSlice (named 0) κ G.the-row ∷ usize ∷ []) (s, (n, tt)) at) ∷ []) ∵ enter ! C Λ code.function (v ∷ vint w64 n ∷ []) _ $
@@ -128,13 +128,13 @@ module _ {M : Type 1} (𝓤 : URA M) (H : Heap 𝓤) (A : Atoms 𝓤) (W : Given
         named-groups gs e = rw e (first-groups n (now s) (h .0) (h .1))
 
 module _ {M : Type 1} (𝓤 : URA M) (H : Heap 𝓤) (A : Atoms 𝓤) (W : Given 𝓤 H A) (mem : Memory → SProp 𝓤) (run : Routine → Fun 𝓤) where
-  walks : (C : Calls 𝓤 H) (Λ : Loops 𝓤 H) → FmC 𝓤 H (W .laws) C → Triple 𝓤 (C #lent·first-four) (Copied 𝓤 H A W mem run) → Triple 𝓤 (C #bars·totals-of) (Inner 𝓤 H A mem run)
+  walks : (C : Calls 𝓤 H) (Λ : Loops 𝓤 H) → FmC 𝓤 H (W .laws) C → Triple 𝓤 (C #lists·first-four) (Copied 𝓤 H A W mem run) → Triple 𝓤 (C #bars·totals-of) (Inner 𝓤 H A mem run)
       → Walks 𝓤 H A self.ended stayed (WpFn 𝓤 H C Λ code.function) (self.clauses 𝓤 H A mem run)
   walks C Λ fm known-copied known-inner = walked 𝓤 H A self.ended stayed (self.clauses 𝓤 H A mem run) (WpFn 𝓤 H C Λ code.function) (λ κs. (slice-vals, (uint-vals w64, tt))) (λ κs. (shr-slice-tells (named 0) (κs .0) G.the-row, (uint-tells w64, tt)))
       (λ κs qs bounds a g are. needs 𝓤 (Asked (now (a .0)) (a .1 .0)) _ (λ h. walk 𝓤 H A W mem run (κs .0) (qs .0) (a .0) (a .1 .0) (are .1 .0 .1) C Λ fm known-copied known-inner (are .0) h))
 
 meets : {M : Type 1} (𝓤 : URA M) (H : Heap 𝓤) (A : Atoms 𝓤) (W : Given 𝓤 H A) (mem : Memory → SProp 𝓤) (run : Routine → Fun 𝓤) (𝓣 : Tables 𝓤 H)
-    → Triple 𝓤 (𝓣 .C #lent·first-four) (Copied 𝓤 H A W mem run) → Triple 𝓤 (𝓣 .C #bars·totals-of) (Inner 𝓤 H A mem run)
+    → Triple 𝓤 (𝓣 .C #lists·first-four) (Copied 𝓤 H A W mem run) → Triple 𝓤 (𝓣 .C #bars·totals-of) (Inner 𝓤 H A mem run)
     → Meets 𝓤 H A self.signature (WpFn 𝓤 H (𝓣 .C) (𝓣 .Λ) code.function) (self.spec 𝓤 H A mem run)
 meets 𝓤 H A W mem run 𝓣 known-copied known-inner =
     walk-meets 𝓤 H A self.ended stayed W (goes-none-slice 𝓤 H A W 1 (0 ∷ []) tt (plain (λ _. G.the-row)) yes, (goes-none 𝓤 H A W 1 (λ _. usize) yes (λ κs x f. refl), tt))
@@ -144,7 +144,7 @@ pub lent-totals-spec : {M : Type 1} → stated.statement M
 unfolding code.routine tablesOf
 lent-totals-spec 𝓤 H 𝓜 𝓖 𝓡 =
     entered 𝓤 H (tripleOf 𝓤 H (𝓖 .A) self.signature (self.spec 𝓤 H (𝓖 .A) (𝓜 .mem) (𝓡 .run)))
-    (tables 𝓤 H 𝓜 𝓡 code.env .C) (tables 𝓤 H 𝓜 𝓡 code.env .Λ) #lent·lent-totals code.function (code.unfolded 𝓤 H 𝓜 𝓡)
+    (tables 𝓤 H 𝓜 𝓡 code.env .C) (tables 𝓤 H 𝓜 𝓡 code.env .Λ) #lists·lent-totals code.function (code.unfolded 𝓤 H 𝓜 𝓡)
     (meets 𝓤 H (𝓖 .A) (givenOf 𝓤 H 𝓜 𝓖) (𝓜 .mem) (𝓡 .run) (tablesOf 𝓤 H 𝓜 (tables 𝓤 H 𝓜 𝓡 code.env))
-    (cited 𝓤 H (Copied 𝓤 H (𝓖 .A) (givenOf 𝓤 H 𝓜 𝓖) (𝓜 .mem) (𝓡 .run)) 𝓜 𝓡 code.env #lent·first-four copied-def.routine code.calls-lent·first-four (copied-thm.met 𝓤 H 𝓜 𝓖 𝓡))
+    (cited 𝓤 H (Copied 𝓤 H (𝓖 .A) (givenOf 𝓤 H 𝓜 𝓖) (𝓜 .mem) (𝓡 .run)) 𝓜 𝓡 code.env #lists·first-four copied-def.routine code.calls-lists·first-four (copied-thm.met 𝓤 H 𝓜 𝓖 𝓡))
     (cited 𝓤 H (Inner 𝓤 H (𝓖 .A) (𝓜 .mem) (𝓡 .run)) 𝓜 𝓡 code.env #bars·totals-of inner-def.routine code.calls-bars·totals-of (inner-thm.met 𝓤 H 𝓜 𝓖 𝓡)))

@@ -40,15 +40,15 @@ use denote.Exit.{yes}
 use Rattle.bars.specs.declared.Group.{Group}
 use Rattle.bars.proofs.Group as T
 use Rattle.bars.proofs.Group.Laws as T′
-use Rattle.lent.specs.Lent.{noGroup, four}
-use Rattle.lent.proofs.group_or as group-or
-use Rattle.lent.proofs.group_or.Symbol as group-or-def
-use Rattle.lent.proofs.group_or.Symbol.{name as #lent·group-or}
-use Rattle.lent.proofs.group_or.Met as group-or-thm
-use Rattle.lent.proofs.first_four.Key.{name as #lent·first-four}
-use Rattle.lent.proofs.first_four as self
-use Rattle.lent.proofs.first_four.Statement as stated
-use Rattle.lent.proofs.first_four.Code as code
+use Rattle.lists.specs.Lists.{noGroup, four}
+use Rattle.lists.proofs.group_or as group-or
+use Rattle.lists.proofs.group_or.Symbol as group-or-def
+use Rattle.lists.proofs.group_or.Symbol.{name as #lists·group-or}
+use Rattle.lists.proofs.group_or.Met as group-or-thm
+use Rattle.lists.proofs.first_four.Key.{name as #lists·first-four}
+use Rattle.lists.proofs.first_four as self
+use Rattle.lists.proofs.first_four.Statement as stated
+use Rattle.lists.proofs.first_four.Code as code
 
 abbrev stayed : Stays (self.ended .signature .params) (self.ended .kept)
 stayed = (stay-none-slice (0 ∷ []) tt (plain (λ _. T.the-row)) yes, tt)
@@ -97,7 +97,7 @@ module _ {M : Type 1} (𝓤 : URA M) (H : Heap 𝓤) (A : Atoms 𝓤) (W : Given
       suffices ! _ (ends-at 𝓤 H A self.ended stayed (self.clauses 𝓤 H A mem run) W (((κ, tt), (q, tt), tt, (s, tt), (v ∷ [], tt)), tt) u rs (tt, tt) (tt, tt)) $ says ! e $
       frame ! $ nothing ! $ move ! (1 ∷ 0 ∷ []) $ fjoin ! $ frame ! $ owned ! Four (Is Four) (array-makes 𝓤 H A W T.the-row (LL.makes T.the-type T′.the-plain 𝓤 H A) 4) rs _ g $ done !
 
-  module _ (C : Calls 𝓤 H) (Λ : Loops 𝓤 H) (fm : FmC 𝓤 H (W .laws) C) (known : Triple 𝓤 (C #lent·group-or) (GroupOr 𝓤 H A mem run)) where
+  module _ (C : Calls 𝓤 H) (Λ : Loops 𝓤 H) (fm : FmC 𝓤 H (W .laws) C) (known : Triple 𝓤 (C #lists·group-or) (GroupOr 𝓤 H A mem run)) where
     walk : Is (ShrSlice (named 0) κ T.the-row) s (v ∷ []) → ent 𝓤 (onEntry 𝓤 H A self.signature (κ, tt) (q, tt) (s, tt) (v ∷ [], tt)) (WpFn 𝓤 H C Λ code.function (v ∷ []) Post)
     walk p =
         qed W ((‵ (flft κ q) ⊛ ‵ ftrue) ∷ ‵ (owns (ShrSlice (named 0) κ T.the-row ∷ []) (s, tt) (v ∷ [], tt)) ∷ []) ∵ enter ! C Λ code.function (v ∷ []) _ $
@@ -130,11 +130,11 @@ module _ {M : Type 1} (𝓤 : URA M) (H : Heap 𝓤) (A : Atoms 𝓤) (W : Given
         made u0 u1 u2 u3 a b c d = (u0 ∷ u1 ∷ u2 ∷ u3 ∷ [], ((refl, refl), (a, (b, (c, (d, tt))))))
 
 module _ {M : Type 1} (𝓤 : URA M) (H : Heap 𝓤) (A : Atoms 𝓤) (W : Given 𝓤 H A) (mem : Memory → SProp 𝓤) (run : Routine → Fun 𝓤) where
-  first-four-walks : (C : Calls 𝓤 H) (Λ : Loops 𝓤 H) → FmC 𝓤 H (W .laws) C → Triple 𝓤 (C #lent·group-or) (GroupOr 𝓤 H A mem run) → Walks 𝓤 H A self.ended stayed (WpFn 𝓤 H C Λ code.function) (self.clauses 𝓤 H A mem run)
+  first-four-walks : (C : Calls 𝓤 H) (Λ : Loops 𝓤 H) → FmC 𝓤 H (W .laws) C → Triple 𝓤 (C #lists·group-or) (GroupOr 𝓤 H A mem run) → Walks 𝓤 H A self.ended stayed (WpFn 𝓤 H C Λ code.function) (self.clauses 𝓤 H A mem run)
   first-four-walks C Λ fm known = walked 𝓤 H A self.ended stayed (self.clauses 𝓤 H A mem run) (WpFn 𝓤 H C Λ code.function) (λ κs. (slice-vals, tt)) (λ κs. (shr-slice-tells (named 0) (κs .0) T.the-row, tt))
       (λ κs qs bounds a g are. via 𝓤 _ (fst∗ 𝓤 _ (emp 𝓤)) (walk 𝓤 H A W mem run (κs .0) (qs .0) (a .0) C Λ fm known (are .0)))
 
-first-four-meets : {M : Type 1} (𝓤 : URA M) (H : Heap 𝓤) (A : Atoms 𝓤) (W : Given 𝓤 H A) (mem : Memory → SProp 𝓤) (run : Routine → Fun 𝓤) (𝓣 : Tables 𝓤 H) → Triple 𝓤 (𝓣 .C #lent·group-or) (GroupOr 𝓤 H A mem run)
+first-four-meets : {M : Type 1} (𝓤 : URA M) (H : Heap 𝓤) (A : Atoms 𝓤) (W : Given 𝓤 H A) (mem : Memory → SProp 𝓤) (run : Routine → Fun 𝓤) (𝓣 : Tables 𝓤 H) → Triple 𝓤 (𝓣 .C #lists·group-or) (GroupOr 𝓤 H A mem run)
     → Meets 𝓤 H A self.signature (WpFn 𝓤 H (𝓣 .C) (𝓣 .Λ) code.function) (self.spec 𝓤 H A mem run)
 first-four-meets 𝓤 H A W mem run 𝓣 known = walk-meets 𝓤 H A self.ended stayed W (goes-none-slice 𝓤 H A W 1 (0 ∷ []) tt (plain (λ _. T.the-row)) yes, tt) (self.clauses 𝓤 H A mem run) (WpFn 𝓤 H (𝓣 .C) (𝓣 .Λ) code.function) (WpFn-mono 𝓤 H (W .laws) 𝓣 code.function)
     (first-four-walks 𝓤 H A W mem run (𝓣 .C) (𝓣 .Λ) (fmOf 𝓤 H (W .laws) 𝓣) known)
@@ -143,6 +143,6 @@ pub first-four-spec : {M : Type 1} → stated.statement M
 unfolding code.routine tablesOf
 first-four-spec 𝓤 H 𝓜 𝓖 𝓡 =
     entered 𝓤 H (tripleOf 𝓤 H (𝓖 .A) self.signature (self.spec 𝓤 H (𝓖 .A) (𝓜 .mem) (𝓡 .run)))
-    (tables 𝓤 H 𝓜 𝓡 code.env .C) (tables 𝓤 H 𝓜 𝓡 code.env .Λ) #lent·first-four code.function (code.unfolded 𝓤 H 𝓜 𝓡)
+    (tables 𝓤 H 𝓜 𝓡 code.env .C) (tables 𝓤 H 𝓜 𝓡 code.env .Λ) #lists·first-four code.function (code.unfolded 𝓤 H 𝓜 𝓡)
     (first-four-meets 𝓤 H (𝓖 .A) (givenOf 𝓤 H 𝓜 𝓖) (𝓜 .mem) (𝓡 .run) (tablesOf 𝓤 H 𝓜 (tables 𝓤 H 𝓜 𝓡 code.env))
-    (cited 𝓤 H (GroupOr 𝓤 H (𝓖 .A) (𝓜 .mem) (𝓡 .run)) 𝓜 𝓡 code.env #lent·group-or group-or-def.routine code.calls-lent·group-or (group-or-thm.met 𝓤 H 𝓜 𝓖 𝓡)))
+    (cited 𝓤 H (GroupOr 𝓤 H (𝓖 .A) (𝓜 .mem) (𝓡 .run)) 𝓜 𝓡 code.env #lists·group-or group-or-def.routine code.calls-lists·group-or (group-or-thm.met 𝓤 H 𝓜 𝓖 𝓡)))

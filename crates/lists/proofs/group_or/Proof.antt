@@ -40,12 +40,12 @@ use denote.Exit.{yes}
 use Rattle.bars.specs.declared.Group.{Group}
 use Rattle.bars.proofs.Group as T
 use Rattle.bars.proofs.Group.Laws as T′
-use Rattle.lent.proofs.group_or.Key.{name as #lent·group-or}
-use Rattle.lent.proofs.group_or as group-or
-use Rattle.lent.proofs.group_or.Statement as stated
-use Rattle.lent.proofs.group_or.Code as code
-use Rattle.lent.proofs.group_or.Code.Mir as mir
-use Rattle.lent.specs.Lent.{noGroup}
+use Rattle.lists.proofs.group_or.Key.{name as #lists·group-or}
+use Rattle.lists.proofs.group_or as group-or
+use Rattle.lists.proofs.group_or.Statement as stated
+use Rattle.lists.proofs.group_or.Code as code
+use Rattle.lists.proofs.group_or.Code.Mir as mir
+use Rattle.lists.specs.Lists.{noGroup}
 
 abbrev stayed : Stays (group-or.ended .signature .params) (group-or.ended .kept)
 stayed = (stay-none-slice (0 ∷ []) tt (plain (λ _. T.the-row)) yes, (stay-none (λ _. usize) yes, tt))
@@ -134,5 +134,5 @@ pub group-or-spec : {M : Type 1} → stated.statement M
 unfolding code.routine tablesOf
 group-or-spec 𝓤 H 𝓜 𝓖 𝓡 =
     entered 𝓤 H (tripleOf 𝓤 H (𝓖 .A) group-or.signature (group-or.spec 𝓤 H (𝓖 .A) (𝓜 .mem) (𝓡 .run)))
-    (tables 𝓤 H 𝓜 𝓡 code.env .C) (tables 𝓤 H 𝓜 𝓡 code.env .Λ) #lent·group-or code.function (code.unfolded 𝓤 H 𝓜 𝓡)
+    (tables 𝓤 H 𝓜 𝓡 code.env .C) (tables 𝓤 H 𝓜 𝓡 code.env .Λ) #lists·group-or code.function (code.unfolded 𝓤 H 𝓜 𝓡)
     (group-or-meets 𝓤 H (𝓖 .A) (givenOf 𝓤 H 𝓜 𝓖) (𝓜 .mem) (𝓡 .run) (tablesOf 𝓤 H 𝓜 (tables 𝓤 H 𝓜 𝓡 code.env)))

@@ -23,8 +23,8 @@ use denote.Triple.Spec.{tripleOf}
 use denote.Triple.Clauses.{ensured, lasts}
 use Rattle.bars.specs.declared.Group.{Group}
 use Rattle.bars.proofs.Group as G
-use Rattle.lent.specs.Lent.{four}
-use Rattle.lent.proofs.first_four as copied
+use Rattle.lists.specs.Lists.{four}
+use Rattle.lists.proofs.first_four as copied
 
 abbrev pub Four : RattleType
 Four = Array G.the-row 4
