@@ -1,10 +1,10 @@
 // The printed lines: a report's first line, a member's line, a refusal.
 use name::name_of;
+use numeral::put_decimal;
 use outcome::Figure;
 use outcome::Outcome;
 use text::Word;
 use text::put_byte;
-use text::put_decimal;
 use text::put_word;
 use text::word_of;
 ghost use mathlib.Core.Path.{_≡_};

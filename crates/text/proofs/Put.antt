@@ -4,7 +4,7 @@ use mathlib.Core.Path.{_≡_, refl, sym, ap, _∙_}
 use mathlib.Core.List.{List, [], _∷_, _++_, append-nil}
 use native.Mathlib.Nat.{add-zero, zero-add}
 use native.Mathlib.Omega.{arith, min-cases}
-use lib.ListN.{length, set, take, drop, length-append, take-append-drop}
+use lib.ListN.{length, take, drop, length-append, take-append-drop}
 use lib.Seq.{sets, sets-eq, length-sets, length-take-le, drop-length, set-out, take-append-seam}
 use Rattle.text.specs.Put.{Put, advance, lastPosition}
 
@@ -61,14 +61,6 @@ put-bounds a = omega (arith, put-length a, a .short, a .next)
 pub put-past : (d : List ℕ) {at b r : ℕ} → length d ≤ at → length d < lastPosition → r ≡ advance at 1 → Put d at (b ∷ []) d r
 put-past d {at} {b} h k e = record { bytes = sym (set-out d at b h); next = e; short = k }
 
--- a byte stored, known by an equation
-pub put-set : (d : List ℕ) {at b x r : ℕ} → length d < lastPosition → b ≡ x → r ≡ advance at 1 → Put d at (x ∷ []) (set d at b) r
-put-set d k e n = record { bytes = rw e; next = n; short = k }
-
--- the room that is left after a text of at most k bytes
-pub put-room : (k m : ℕ) {d : List ℕ} {at : ℕ} {s d′ : List ℕ} {r : ℕ} → Put d at s d′ r → length s ≤ k → at + k + m ≤ length d → r + m ≤ length d′
-put-room k m a h g = omega (arith, put-length a, a .next)
-
 -- ---- A text put at the start: how long it is, and what the buffer then holds
 
 module _ {d s d′ : List ℕ} {r : ℕ} (a : Put d 0 s d′ r) where
@@ -90,10 +82,6 @@ module _ {d s d′ : List ℕ} {r : ℕ} (a : Put d 0 s d′ r) where
   put-read h =
       let e : r ≡ length s = learnt-length (omega (arith, a .short)) in
       rw (e, put-whole h) (take-append-seam s _)
-
-  -- a text that fits, copied from there
-  pub put-copied : length s ≤ length d → {e e′ : List ℕ} {at q : ℕ} → Put e at (take r d′) e′ q → Put e at s e′ q
-  put-copied h b = rw (put-read h) at b
 
   -- a text that is longer fills the buffer
   pub put-cut : length d ≤ length s → d′ ≡ take (length d) s

@@ -1,10 +1,10 @@
-// Text put into a lent buffer: bytes, decimal numbers and fixed words. A byte past the buffer's end is counted and not stored,
-// so a first pass over an empty buffer learns a text's length.
+// Text put into a lent buffer: bytes and fixed words. A byte past the buffer's end is counted and not stored, so a first pass over
+// an empty buffer learns a text's length.
 ghost use mathlib.Core.Path.{_≡_};
 ghost use mathlib.Core.List.{_∷_, []};
-ghost use Prim.Native.Nat.{_+_, _/_, _%_, _<_, _≤_, min};
-ghost use lib.ListN.{length, take};
-ghost use Rattle.text.specs.Text.{decimal, wordText};
+ghost use Prim.Native.Nat.{min};
+ghost use lib.ListN.{take};
+ghost use Rattle.text.specs.Text.{wordText};
 ghost use Rattle.text.specs.Put.{Put, advance};
 
 // The largest position.
@@ -41,69 +41,6 @@ pub fn put_byte(out: &mut [u8], at: usize, b: u8) -> usize
     after(at)
 }
 
-// The byte of a decimal digit.
-fn digit(d: u64) -> u8
-    requires { ⌜ d < 10 ⌝ }
-    ensures { λ r. ⌜ r ≡ 48 + d ⌝ }
-{
-    48 + d as u8
-}
-
-// The two digits of a number below 100, where there is room for them.
-fn set_two(out: &mut [u8], at: usize, two: u64) -> usize
-    requires { ⌜ (two < 100) × (at + 2 ≤ length (now out)) ⌝ }
-    ensures { λ r. ⌜ Put (now (out .entry)) at ((48 + two / 10) ∷ (48 + two % 10) ∷ []) (now (out .exit)) r ⌝ }
-{
-    out[at] = digit(two / 10);
-    out[at + 1] = digit(two % 10);
-    at + 2
-}
-
-// The four digits of a number below 10000, where there is room for them.
-fn set_four(out: &mut [u8], at: usize, four: u64) -> usize
-    requires { ⌜ (four < 10000) × (at + 4 ≤ length (now out)) ⌝ }
-    ensures { λ r. ⌜ Put (now (out .entry)) at ((48 + four / 100 / 10) ∷ (48 + four / 100 % 10) ∷ (48 + four % 100 / 10) ∷ (48 + four % 100 % 10) ∷ []) (now (out .exit)) r ⌝ }
-{
-    let p = set_two(out, at, four / 100);
-    set_two(out, p, four % 100)
-}
-
-// A number below 100 in decimal, where there is room for two digits.
-fn set_short(out: &mut [u8], at: usize, v: u64) -> usize
-    requires { ⌜ (v < 100) × (at + 2 ≤ length (now out)) ⌝ }
-    ensures { λ r. ⌜ Put (now (out .entry)) at (decimal v) (now (out .exit)) r ⌝ }
-{
-    if v < 10 {
-        out[at] = digit(v);
-        return at + 1;
-    }
-    set_two(out, at, v)
-}
-
-// A number below 10000 in decimal, where there is room for four digits.
-fn set_medium(out: &mut [u8], at: usize, v: u64) -> usize
-    requires { ⌜ (v < 10000) × (at + 4 ≤ length (now out)) ⌝ }
-    ensures { λ r. ⌜ Put (now (out .entry)) at (decimal v) (now (out .exit)) r ⌝ }
-{
-    if v < 100 {
-        return set_short(out, at, v);
-    }
-    let p = set_short(out, at, v / 100);
-    set_two(out, p, v % 100)
-}
-
-// A number below 10^8 in decimal, where there is room for eight digits.
-fn set_long(out: &mut [u8], at: usize, v: u64) -> usize
-    requires { ⌜ (v < 100000000) × (at + 8 ≤ length (now out)) ⌝ }
-    ensures { λ r. ⌜ Put (now (out .entry)) at (decimal v) (now (out .exit)) r ⌝ }
-{
-    if v < 10000 {
-        return set_medium(out, at, v);
-    }
-    let p = set_medium(out, at, v / 10000);
-    set_four(out, p, v % 10000)
-}
-
 fn smaller(a: usize, b: usize) -> usize
     ensures { λ r. ⌜ r ≡ min a b ⌝ }
 {
@@ -111,7 +48,7 @@ fn smaller(a: usize, b: usize) -> usize
 }
 
 // The first `n` bytes of `s` from `at` on, all of them where there are fewer.
-fn put_first(out: &mut [u8], at: usize, s: &[u8], n: usize) -> usize
+pub fn put_first(out: &mut [u8], at: usize, s: &[u8], n: usize) -> usize
     ensures { λ r. ⌜ Put (now (out .entry)) at (take n (now (s .entry))) (now (out .exit)) r ⌝ }
 {
     let end = smaller(n, s.len());
@@ -122,35 +59,6 @@ fn put_first(out: &mut [u8], at: usize, s: &[u8], n: usize) -> usize
         i += 1;
     }
     p
-}
-
-// `v` in decimal from `at` on, whatever room there is: first the digits before the last eight, then those eight, copied from an array.
-fn put_tight(out: &mut [u8], at: usize, v: u64) -> usize
-    ensures { λ r. ⌜ Put (now (out .entry)) at (decimal v) (now (out .exit)) r ⌝ }
-{
-    let mut digits = [0u8; 8];
-    if v < 100000000 {
-        let n = set_long(&mut digits, 0, v);
-        return put_first(out, at, &digits, n);
-    }
-    let p = put_tight(out, at, v / 100000000);
-    let half = set_four(&mut digits, 0, v / 10000 % 10000);
-    let n = set_four(&mut digits, half, v % 10000);
-    put_first(out, p, &digits, n)
-}
-
-// `v` in decimal from `at` on, without leading zeros: up to eight digits are stored with one look at the room.
-pub fn put_decimal(out: &mut [u8], at: usize, v: u64) -> usize
-    ensures { λ r. ⌜ Put (now (out .entry)) at (decimal v) (now (out .exit)) r ⌝ }
-{
-    if v < 100000000 {
-        if at < out.len() {
-            if 8 <= out.len() - at {
-                return set_long(out, at, v);
-            }
-        }
-    }
-    put_tight(out, at, v)
 }
 
 // The word `w` from `at` on.

@@ -1,8 +1,8 @@
--- `text::set_four` meets its contract.
+-- `numeral::set_four` meets its contract.
 use borrow.Author.Needs.{needs}
 use Rattle.text.proofs.Put.{put-then}
-use Rattle.text.proofs.set_four.Statement.{statement}
-use Rattle.text.proofs.set_four.Tie as tie
+use Rattle.numeral.proofs.set_four.Statement.{statement}
+use Rattle.numeral.proofs.set_four.Tie as tie
 
 set-two-requires : tie.Need-set-two-requires
 set-two-requires c κs = search needs

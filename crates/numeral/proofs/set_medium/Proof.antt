@@ -1,11 +1,13 @@
--- `text::set_medium` meets its contract.
+-- `numeral::set_medium` meets its contract.
 use Prim.Native.Nat.{_/_}
 use native.Mathlib.Omega.{arith}
 use borrow.Author.Needs.{needs}
-use Rattle.text.proofs.Put.{put-then, put-room}
-use Rattle.text.proofs.Decimal.{decimal-short, decimal-hundred}
-use Rattle.text.proofs.set_medium.Statement.{statement}
-use Rattle.text.proofs.set_medium.Tie as tie
+use Rattle.text.proofs.Put.{put-then}
+use Rattle.text.proofs.Decimal.{decimal-short}
+use Rattle.numeral.proofs.Put.{put-room}
+use Rattle.numeral.proofs.Decimal.{decimal-hundred}
+use Rattle.numeral.proofs.set_medium.Statement.{statement}
+use Rattle.numeral.proofs.set_medium.Tie as tie
 
 set-short-requires : tie.Need-set-short-requires
 set-short-requires c κs = search needs

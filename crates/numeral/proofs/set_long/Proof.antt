@@ -1,11 +1,13 @@
--- `text::set_long` meets its contract.
+-- `numeral::set_long` meets its contract.
 use Prim.Native.Nat.{_/_}
 use native.Mathlib.Omega.{arith}
 use borrow.Author.Needs.{needs}
-use Rattle.text.proofs.Put.{put-then, put-room}
-use Rattle.text.proofs.Decimal.{decimal-short, decimal-myriad}
-use Rattle.text.proofs.set_long.Statement.{statement}
-use Rattle.text.proofs.set_long.Tie as tie
+use Rattle.text.proofs.Put.{put-then}
+use Rattle.text.proofs.Decimal.{decimal-short}
+use Rattle.numeral.proofs.Put.{put-room}
+use Rattle.numeral.proofs.Decimal.{decimal-myriad}
+use Rattle.numeral.proofs.set_long.Statement.{statement}
+use Rattle.numeral.proofs.set_long.Tie as tie
 
 set-medium-requires : tie.Need-set-medium-requires
 set-medium-requires c κs = search needs

@@ -1,19 +1,21 @@
--- `text::put_tight` meets its contract; the measure of its calls of itself is the number.
+-- `numeral::put_tight` meets its contract; the measure of its calls of itself is the number.
 use Prim.Native.Nat.{ℕ, _<_}
 use native.Mathlib.Omega.{arith}
 use borrow.Author.Needs.{needs}
 use borrow.Fn.Kinds.{In}
 use borrow.Fn.PlainCycle.{Measures, is, falls, and}
-use Rattle.text.proofs.Put.{put-then, put-copied}
-use Rattle.text.proofs.Decimal.{decimal-short, decimal-eight}
-use Rattle.text.proofs.put_tight.Reads as put-tight
-use Rattle.text.proofs.put_tight.Kinds as put-tight-kinds
-use Rattle.text.proofs.+put_tight.Lts-put_tight as lts
+use Rattle.text.proofs.Put.{put-then}
+use Rattle.text.proofs.Decimal.{decimal-short}
 use Rattle.text.proofs.put_first.Reads as put-first-reads
-use Rattle.text.proofs.set_four.Reads as set-four-reads
-use Rattle.text.proofs.set_long.Reads as set-long-reads
-use Rattle.text.proofs.+put_tight.{statement}
-use Rattle.text.proofs.+put_tight.Tie.{close}
+use Rattle.numeral.proofs.Put.{put-copied}
+use Rattle.numeral.proofs.Decimal.{decimal-eight}
+use Rattle.numeral.proofs.put_tight.Reads as put-tight
+use Rattle.numeral.proofs.put_tight.Kinds as put-tight-kinds
+use Rattle.numeral.proofs.+put_tight.Lts-put_tight as lts
+use Rattle.numeral.proofs.set_four.Reads as set-four-reads
+use Rattle.numeral.proofs.set_long.Reads as set-long-reads
+use Rattle.numeral.proofs.+put_tight.{statement}
+use Rattle.numeral.proofs.+put_tight.Tie.{close}
 
 abbrev μ : Measures 1 put-tight-kinds.ps ℕ
 μ κs a = a .1 .1 .0

@@ -1,10 +1,11 @@
--- `text::set_short` meets its contract.
+-- `numeral::set_short` meets its contract.
 use native.Mathlib.Omega.{arith}
 use borrow.Author.Needs.{needs}
-use Rattle.text.proofs.Put.{put-set}
-use Rattle.text.proofs.Decimal.{decimal-one, decimal-pair}
-use Rattle.text.proofs.set_short.Statement.{statement}
-use Rattle.text.proofs.set_short.Tie as tie
+use Rattle.text.proofs.Decimal.{decimal-one}
+use Rattle.numeral.proofs.Put.{put-set}
+use Rattle.numeral.proofs.Decimal.{decimal-pair}
+use Rattle.numeral.proofs.set_short.Statement.{statement}
+use Rattle.numeral.proofs.set_short.Tie as tie
 
 digit-requires : tie.Need-digit-requires
 digit-requires c κs = search needs

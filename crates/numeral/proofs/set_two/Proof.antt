@@ -1,10 +1,11 @@
--- `text::set_two` meets its contract.
+-- `numeral::set_two` meets its contract.
 use native.Mathlib.Omega.{arith}
 use borrow.Author.Needs.{needs}
 use lib.ListN.{length-set}
-use Rattle.text.proofs.Put.{put-set, put-then}
-use Rattle.text.proofs.set_two.Statement.{statement}
-use Rattle.text.proofs.set_two.Tie as tie
+use Rattle.text.proofs.Put.{put-then}
+use Rattle.numeral.proofs.Put.{put-set}
+use Rattle.numeral.proofs.set_two.Statement.{statement}
+use Rattle.numeral.proofs.set_two.Tie as tie
 
 digit-requires : tie.Need-digit-requires
 digit-requires c κs = search needs
