@@ -1,6 +1,6 @@
 -- From the answers of crate `report` to those that a caller gets.
 use Prim.Native.Nat.{ℕ}
-use mathlib.Core.Path.{_≡_, refl, ap, subst, _∙_}
+use mathlib.Core.Path.{_≡_, ap, subst, _∙_}
 use mathlib.Core.List.{List}
 use Rattle.bars.specs.declared.Group.{Group}
 use Rattle.built.specs.declared.Built.{Built}

@@ -1,5 +1,5 @@
 -- From the answers of crate `utilization` to those that a caller gets.
-use mathlib.Core.Path.{_≡_, refl, sym, ap, subst, _∙_}
+use mathlib.Core.Path.{_≡_, ap, subst, _∙_}
 use mathlib.Core.List.{List}
 use Rattle.bars.specs.declared.Group.{Group}
 use Rattle.built.specs.declared.Built.{Built}

@@ -43,13 +43,6 @@ module _ (s : List ℕ) (left p w v : ℕ) (ok : Got (ofNumber (groupsAt (suc le
         (λ e. absurd (omega (arith, e .0, rw q at t)))
         (group .1)
 
-    pub goes-on : 128 ≤ b → Got (ofNumber (groupsAt left s (p + 1) (w * 128) (v + (b - 128) * w)))
-    goes-on t =
-        let l : suc left - 1 ≡ left = omega arith in
-        let e = group-follows s (suc left) p w v (omega arith) b q there t in
-        let f = rw l at e in
-        rw f at ok
-
 -- ---- The first two groups.
 
 module _ (s : List ℕ) (at : ℕ) (ok : Got (ofNumber (numberAt s at))) where

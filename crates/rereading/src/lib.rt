@@ -1,7 +1,7 @@
 // The numbers of a member that was accepted, taken once more: no question is put, since each was answered yes.
 ghost use mathlib.Core.Path.{_≡_};
 ghost use mathlib.Core.Bool.{true};
-ghost use Prim.Native.Nat.{_+_, _-_, _<_, _≤_, _^_, min};
+ghost use Prim.Native.Nat.{_+_, _-_, _<_, _≤_, _^_};
 ghost use Rattle.number.specs.Number.{numberAt, groupsAt};
 ghost use Rattle.field.specs.Fields.{groups, beamFields, columnFields, fieldsOf, known};
 ghost use Rattle.reading.specs.Reading.{Got, got, placed, ofNumber};

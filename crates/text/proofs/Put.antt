@@ -1,11 +1,11 @@
 -- Laws of `Put`: one text after the other, and the whole buffer after a text put at its start.
 use Prim.Native.Nat.{ℕ, suc, _+_, _<_, _≤_}
-use mathlib.Core.Path.{_≡_, refl, sym, ap, _∙_}
-use mathlib.Core.List.{List, [], _∷_, _++_, append-nil}
+use mathlib.Core.Path.{_≡_, refl, sym, _∙_}
+use mathlib.Core.List.{List, [], _∷_, _++_}
 use native.Mathlib.Nat.{add-zero, zero-add}
 use native.Mathlib.Omega.{arith, min-cases}
-use lib.ListN.{length, take, drop, length-append, take-append-drop}
-use lib.Seq.{sets, sets-eq, length-sets, length-take-le, drop-length, set-out, take-append-seam}
+use lib.ListN.{length, take, drop, length-append}
+use lib.Seq.{sets, sets-eq, length-sets, set-out, take-append-seam}
 use Rattle.text.specs.Put.{Put, advance, lastPosition}
 
 -- ---- Runs of stores
@@ -26,16 +26,6 @@ sets-advance : (d t : List ℕ) (at n : ℕ) → length d < lastPosition → set
 sets-advance d t at n h =
     min-cases (at + n) lastPosition _ (λ k e. rw e)
     (λ k e. rw e (sets-out t d lastPosition (omega arith) ∙ sym (sets-out t d (at + n) (omega arith))))
-
--- a text that is as long as the buffer or longer fills it
-sets-cut : (s d : List ℕ) → length d ≤ length s → sets d 0 s ≡ take (length d) s
-sets-cut s d h =
-    let n = length d in
-    let l : length (take n s) ≡ n = length-take-le n s h in
-    let f : sets d 0 (take n s) ≡ take n s = sets-eq (take n s) d 0 (omega arith) ∙ rw (zero-add, l, drop-length d) (append-nil (take n s)) in
-    ap (sets d 0) (sym (take-append-drop n s))
-    ∙ sym (sets-append (take n s) (drop n s) d 0)
-    ∙ rw f (sets-out (drop n s) (take n s) (0 + length (take n s)) (omega arith))
 
 -- ---- One text after the other
 
@@ -82,7 +72,3 @@ module _ {d s d′ : List ℕ} {r : ℕ} (a : Put d 0 s d′ r) where
   put-read h =
       let e : r ≡ length s = learnt-length (omega (arith, a .short)) in
       rw (e, put-whole h) (take-append-seam s _)
-
-  -- a text that is longer fills the buffer
-  pub put-cut : length d ≤ length s → d′ ≡ take (length d) s
-  put-cut h = a .bytes ∙ sets-cut s d h

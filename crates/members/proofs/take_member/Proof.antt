@@ -1,6 +1,5 @@
 -- `members::take_member` meets its contract.
 use mathlib.Core.Path.{sym, ap, _∙_}
-use Rattle.reading.specs.Reading.{Got}
 use Rattle.reading.specs.Taken.{taken}
 use Rattle.members.proofs.Accepted.{mark-got, kind-got, kind-is-known, fields-got, member-taken}
 use Rattle.members.proofs.take_member.Statement.{statement}

@@ -1,6 +1,6 @@
 -- `rereading::reread_long` meets its contract: the number from the third group is the number from here, the weight is that of the groups
 -- passed, and the value so far is below it.
-use mathlib.Core.Path.{_≡_, refl, sym, _∙_}
+use mathlib.Core.Path.{_≡_, refl, _∙_}
 use Prim.Native.Nat.{suc, _+_, _-_, _*_, _^_, _≤_, _<_}
 use native.Mathlib.Omega.{arith}
 use lib.ListN.{getD}
@@ -9,7 +9,7 @@ use Rattle.number.specs.declared.Number.the-variants.{Value}
 use Rattle.number.specs.Number.{groupsAt}
 use Rattle.number.proofs.Groups.{below}
 use Rattle.reading.specs.Reading.{Got, ofNumber}
-use Rattle.rereading.proofs.Numbers.{there, ends, goes-on, another, turn, weight-at, weight-after}
+use Rattle.rereading.proofs.Numbers.{there, ends, another, turn, weight-at, weight-after}
 use Rattle.rereading.proofs.reread_long.Statement.{statement}
 use Rattle.rereading.proofs.reread_long.Tie as tie
 

@@ -2,7 +2,6 @@
 use mathlib.Core.Path.{_≡_, refl, _∙_}
 use Prim.Native.Nat.{_-_, _≤_}
 use borrow.Author.Needs.{needs}
-use Rattle.reading.specs.Reading.{Got}
 use Rattle.reading.specs.Taken.{run}
 use Rattle.reading.proofs.Taken.{run-ended, run-stored}
 use Rattle.rereading.proofs.Rows.{number-got}
