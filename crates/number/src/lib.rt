@@ -11,6 +11,7 @@ pub enum Number {
     Refused(Question),
 }
 
+// A byte as a number.
 pub fn wide(x: u8) -> u64
     ensures { λ r. ⌜ r ≡ x ⌝ }
 {

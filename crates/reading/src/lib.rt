@@ -116,6 +116,7 @@ fn take_run(src: &[u8], at: usize, v: &mut [u32; 40], from: usize, end: usize) -
     Took::To(p)
 }
 
+// The number of groups that a count names: a list has four at most.
 pub fn at_most_four(count: u32) -> usize
     ensures { λ r. ⌜ r ≡ min count 4 ⌝ }
 {
