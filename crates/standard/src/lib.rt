@@ -5,7 +5,7 @@ ghost use mathlib.Core.List.{[]};
 ghost use Prim.Native.Nat.{_≤_, _/_, _%_};
 ghost use lib.ListN.{getD};
 ghost use Rattle.quantity.specs.Unit.{millimetres, stressOf, stressOfTenths, stressOfHundredths};
-ghost use Rattle.standard.specs.Table.{row, cell, listed};
+ghost use Rattle.standard.specs.Table.{row, listed};
 ghost use Rattle.standard.specs.Bars.{bars, areaOf};
 ghost use Rattle.standard.specs.Concrete.{concretes, concreteOf};
 ghost use Rattle.standard.specs.Steel.{steels, steelOf, linkSteels, fyvOf};
@@ -185,67 +185,14 @@ fn steel_row(fyk: u32, fy: u32, fyc: u32, axial: u32, depth: u32) -> Steel
     }
 }
 
-// The columns of the table, by code. One more steel: a row in specs/Steel.antt, an arm in each column and in is_steel.
-fn fyk_at(code: u32) -> u32
-    ensures { λ r. ⌜ r ≡ cell code 1 steels ⌝ }
-{
-    match code {
-        1 => 400,
-        2 => 500,
-        _ => 0,
-    }
-}
-
-fn fy_at(code: u32) -> u32
-    ensures { λ r. ⌜ r ≡ cell code 2 steels ⌝ }
-{
-    match code {
-        1 => 360,
-        2 => 435,
-        _ => 0,
-    }
-}
-
-fn fyc_at(code: u32) -> u32
-    ensures { λ r. ⌜ r ≡ cell code 3 steels ⌝ }
-{
-    match code {
-        1 => 360,
-        2 => 435,
-        _ => 0,
-    }
-}
-
-fn axial_at(code: u32) -> u32
-    ensures { λ r. ⌜ r ≡ cell code 4 steels ⌝ }
-{
-    match code {
-        1 => 360,
-        2 => 400,
-        _ => 0,
-    }
-}
-
-fn depth_at(code: u32) -> u32
-    ensures { λ r. ⌜ r ≡ cell code 5 steels ⌝ }
-{
-    match code {
-        1 => 52,
-        2 => 48,
-        _ => 0,
-    }
-}
-
 pub fn steel_of(code: u32) -> Steel
     ensures { λ r. ⌜ r ≡ steelOf code ⌝ }
 {
-    steel_row(
-        fyk_at(code),
-        fy_at(code),
-        fyc_at(code),
-        axial_at(code),
-        depth_at(code),
-    )
+    match code {
+        1 => steel_row(400, 360, 360, 360, 52),
+        2 => steel_row(500, 435, 435, 400, 48),
+        _ => steel_row(0, 0, 0, 0, 0),
+    }
 }
 
 // Whether there is such a steel of links.
