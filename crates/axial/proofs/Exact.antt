@@ -10,9 +10,9 @@ use Rattle.quantity.specs.Fraction.{_//_, whole, _⊕_, _⊖_, _⊗_}
 use Rattle.quantity.specs.Unit.{inUnits, inTenths, exactStress}
 use Rattle.quantity.proofs.Rounding.{expand}
 use Rattle.quantity.proofs.Fraction.{Same, same-refl, same-sym, same-trans, same-sum, same-product}
-use Rattle.standard.specs.declared.Concrete.{Concrete}
-use Rattle.standard.specs.declared.Steel.{Steel}
-use Rattle.standard.specs.Bounds.{UsableConcrete, UsableSteel}
+use Rattle.material.specs.declared.Concrete.{Concrete}
+use Rattle.material.specs.declared.Steel.{Steel}
+use Rattle.material.specs.Bounds.{UsableConcrete, UsableSteel}
 use Rattle.member.specs.Member.{Column}
 use Rattle.axial.specs.Steps.{grossArea, steelArea, concreteArea, squashLoad, axialCapacity}
 use Rattle.stability.specs.Steps.{stability}

@@ -4,8 +4,8 @@ use lib.Dec.{ltb}
 use Rattle.quantity.specs.Choice.{if_then_else_}
 use Rattle.quantity.specs.Fraction.{Frac, _//_, whole, _⊕_, _⊖_, _⊗_}
 use Rattle.quantity.specs.Unit.{exactStress}
-use Rattle.standard.specs.declared.Concrete.{Concrete}
-use Rattle.standard.specs.declared.Steel.{Steel}
+use Rattle.material.specs.declared.Concrete.{Concrete}
+use Rattle.material.specs.declared.Steel.{Steel}
 use Rattle.stability.specs.Exact.{exactStability}
 use Rattle.member.specs.Member.{Column}
 use Rattle.bars.specs.Sums.{area}

@@ -1,7 +1,7 @@
 -- What the checks are put to: an accepted column, and the values of any usable concrete and steel.
-use Rattle.standard.specs.declared.Concrete.{Concrete}
-use Rattle.standard.specs.declared.Steel.{Steel}
-use Rattle.standard.specs.Bounds.{UsableConcrete, UsableSteel}
+use Rattle.material.specs.declared.Concrete.{Concrete}
+use Rattle.material.specs.declared.Steel.{Steel}
+use Rattle.material.specs.Bounds.{UsableConcrete, UsableSteel}
 use Rattle.member.specs.Member.{Column}
 use Rattle.member.specs.Accepted.{AcceptedColumn}
 

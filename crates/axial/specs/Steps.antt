@@ -5,8 +5,8 @@ use lib.Dec.{leb, ltb}
 use Rattle.quantity.specs.Choice.{if_then_else_}
 use Rattle.quantity.specs.Rounding.{down}
 use Rattle.quantity.specs.Unit.{inUnits, inTenths}
-use Rattle.standard.specs.declared.Concrete.{Concrete}
-use Rattle.standard.specs.declared.Steel.{Steel}
+use Rattle.material.specs.declared.Concrete.{Concrete}
+use Rattle.material.specs.declared.Steel.{Steel}
 use Rattle.stability.specs.Steps.{stability}
 use Rattle.member.specs.Member.{Column}
 use Rattle.bars.specs.Sums.{area}

@@ -7,12 +7,12 @@ ghost use Rattle.member.specs.Accepted.{AcceptedColumn};
 ghost use Rattle.axial.specs.Given.{Given};
 ghost use Rattle.axial.specs.Steps.{grossArea, steelArea, steelFits, slendernessFits, concreteArea, squashLoad, axialCapacity};
 use bars::steel_area;
+use material::Concrete;
+use material::Steel;
 use member::Column;
 use quantity::Force;
 use quantity::div_down;
 use stability::stability_of;
-use standard::Concrete;
-use standard::Steel;
 
 // S, in tenths of mm².
 fn bars_area(x: Column) -> u64

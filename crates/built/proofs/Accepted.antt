@@ -11,9 +11,9 @@ use lib.Dec.{T, ltb, eqb, ltb→lt}
 use lib.ListN.{length, getD, take, length-take}
 use borrow.Author.Tests.{ltb-true, lt-ltb, eqb-true}
 use Rattle.standard.specs.Bars.{areaOf}
-use Rattle.standard.specs.Table.{listed}
-use Rattle.standard.specs.Concrete.{concretes}
-use Rattle.standard.specs.Steel.{steels, linkSteels}
+use Rattle.table.specs.Table.{listed}
+use Rattle.material.specs.Concrete.{concretes}
+use Rattle.material.specs.Steel.{steels, linkSteels}
 use Rattle.question.specs.declared.Question.{Question}
 use Rattle.question.specs.declared.Question.the-variants.{Mark, Kind, Field, Relation, Bars, Ratio}
 use Rattle.bars.specs.declared.Group.{Group}

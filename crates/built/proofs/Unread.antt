@@ -16,7 +16,7 @@ use Rattle.domain.specs.Domain.{holds, asked, fieldHolds}
 use Rattle.field.specs.Fields.{groups, kinds, beamFields, columnFields, meshFields, fieldsOf, known}
 use Rattle.slots.specs.Slots.{fieldsHold}
 use Rattle.member.specs.Member.{beam, column, mesh}
-use Rattle.standard.proofs.Table.{every, every-at, and-left, and-right}
+use Rattle.table.proofs.Table.{every, every-at, and-left, and-right}
 use Rattle.question.specs.declared.Question.the-variants.{Mark, Kind, Field}
 use Rattle.quantity.specs.Choice.{if_then_else_}
 use Rattle.field.proofs.Tables.{known-below}

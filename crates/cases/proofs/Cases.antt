@@ -4,11 +4,11 @@ use mathlib.Core.Path.{_≡_, refl}
 use mathlib.Core.List.{[], _∷_, map}
 use Rattle.quantity.specs.Rounding.{up, down, clamp}
 use Rattle.standard.specs.Bars.{areaOf}
-use Rattle.standard.specs.Concrete.{concreteOf}
+use Rattle.material.specs.Concrete.{concreteOf}
 use Rattle.standard.specs.Mesh.{multiple}
 use Rattle.standard.specs.Slenderness.{point}
 use Rattle.standard.specs.Spacing.{spacingLimit}
-use Rattle.standard.specs.Steel.{steelOf, fyvOf}
+use Rattle.material.specs.Steel.{steelOf, fyvOf}
 use Rattle.outcome.specs.declared.Check.the-variants.{Passed, Shear, LinkSpacing, AxialForce, Lap}
 use Rattle.outcome.specs.declared.Figure.the-variants.{Reached, Unreached}
 use Rattle.outcome.specs.Outcome.{outcome}

@@ -8,14 +8,14 @@ use lib.Dec.{leb, ltb, eqb}
 use Rattle.quantity.specs.Choice.{if_then_else_}
 use Rattle.quantity.proofs.Choice.{if-case}
 use Rattle.quantity.proofs.Rounding.{up-le, down-le}
-use Rattle.standard.specs.declared.Concrete.{Concrete}
-use Rattle.standard.specs.declared.Steel.{Steel}
-use Rattle.standard.specs.Concrete.{concreteOf}
-use Rattle.standard.specs.Steel.{steelOf}
-use Rattle.standard.specs.Bounds.{UsableConcrete, UsableSteel}
+use Rattle.material.specs.declared.Concrete.{Concrete}
+use Rattle.material.specs.declared.Steel.{Steel}
+use Rattle.material.specs.Concrete.{concreteOf}
+use Rattle.material.specs.Steel.{steelOf}
+use Rattle.material.specs.Bounds.{UsableConcrete, UsableSteel}
 use Rattle.standard.specs.Mesh.{multiple}
 use Rattle.standard.specs.Slenderness.{point}
-use Rattle.standard.proofs.Materials.{usable-concrete, usable-steel}
+use Rattle.material.proofs.Materials.{usable-concrete, usable-steel}
 use Rattle.standard.proofs.Mesh.{multiple-between}
 use Rattle.standard.proofs.Slenderness.{point-falls}
 use Rattle.outcome.specs.declared.Outcome.{Outcome}

@@ -1,7 +1,7 @@
 -- What the checks of a member come to, by its kind.
 use Prim.Native.Nat.{ℕ}
-use Rattle.standard.specs.Concrete.{concreteOf}
-use Rattle.standard.specs.Steel.{steelOf}
+use Rattle.material.specs.Concrete.{concreteOf}
+use Rattle.material.specs.Steel.{steelOf}
 use Rattle.outcome.specs.declared.Outcome.{Outcome}
 use Rattle.member.specs.Member.{Member, beam, column, mesh}
 use Rattle.mesh.specs.Checks.{meshOutcome}

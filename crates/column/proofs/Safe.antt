@@ -7,11 +7,11 @@ use lib.Dec.{leb}
 use borrow.Author.Tests.{leb-true, leb-false}
 use Rattle.quantity.proofs.Choice.{if-case}
 use Rattle.quantity.proofs.Safe.{capacity-pass, capacity-fail}
-use Rattle.standard.specs.declared.Concrete.{Concrete}
-use Rattle.standard.specs.declared.Steel.{Steel}
-use Rattle.standard.specs.Concrete.{concreteOf}
-use Rattle.standard.specs.Steel.{steelOf}
-use Rattle.standard.proofs.Materials.{usable-concrete, usable-steel}
+use Rattle.material.specs.declared.Concrete.{Concrete}
+use Rattle.material.specs.declared.Steel.{Steel}
+use Rattle.material.specs.Concrete.{concreteOf}
+use Rattle.material.specs.Steel.{steelOf}
+use Rattle.material.proofs.Materials.{usable-concrete, usable-steel}
 use Rattle.member.specs.Member.{Column}
 use Rattle.member.specs.Accepted.{AcceptedColumn}
 use Rattle.bars.specs.Sums.{area, largest, smallest}

@@ -3,8 +3,8 @@ use Prim.Native.Nat.{_*_}
 use mathlib.Core.Bool.{Bool, _&&_}
 use lib.Dec.{leb}
 use Rattle.quantity.specs.Choice.{if_then_else_}
-use Rattle.standard.specs.declared.Concrete.{Concrete}
-use Rattle.standard.specs.declared.Steel.{Steel}
+use Rattle.material.specs.declared.Concrete.{Concrete}
+use Rattle.material.specs.declared.Steel.{Steel}
 use Rattle.member.specs.Member.{Column}
 use Rattle.bars.specs.Sums.{largest, smallest}
 use Rattle.outcome.specs.Outcome.{outcome, stopped}

@@ -2,10 +2,10 @@
 use Prim.Native.Nat.{_*_, _≤_}
 use mathlib.Core.Path.{_≡_}
 use Rattle.quantity.specs.Fraction.{whole, _⊖_, _≼_, _≺_}
-use Rattle.standard.specs.declared.Concrete.{Concrete}
-use Rattle.standard.specs.declared.Steel.{Steel}
-use Rattle.standard.specs.Concrete.{concreteOf}
-use Rattle.standard.specs.Steel.{steelOf}
+use Rattle.material.specs.declared.Concrete.{Concrete}
+use Rattle.material.specs.declared.Steel.{Steel}
+use Rattle.material.specs.Concrete.{concreteOf}
+use Rattle.material.specs.Steel.{steelOf}
 use Rattle.member.specs.Member.{Column}
 use Rattle.bars.specs.Sums.{area, largest, smallest}
 use Rattle.outcome.specs.Safe.{empty, capacity, Safe}

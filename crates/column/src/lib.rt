@@ -1,8 +1,8 @@
 // Columns: the checks in their order, up to the first that fails.
 ghost use mathlib.Core.Path.{_≡_};
 ghost use mathlib.Core.Bool.{true};
-ghost use Rattle.standard.specs.Concrete.{concreteOf};
-ghost use Rattle.standard.specs.Steel.{steelOf};
+ghost use Rattle.material.specs.Concrete.{concreteOf};
+ghost use Rattle.material.specs.Steel.{steelOf};
 ghost use Rattle.member.specs.Member.{columnOf};
 ghost use Rattle.member.specs.Accepted.{AcceptedColumn};
 ghost use Rattle.outcome.specs.Outcome.{outcome, stopped};
@@ -13,15 +13,15 @@ use axial::axial_capacity;
 use axial::slenderness_fits;
 use axial::steel_fits;
 use bars::totals_of;
+use material::Concrete;
+use material::Steel;
+use material::concrete_of;
+use material::steel_of;
 use member::Column;
 use outcome::Check;
 use outcome::Figure;
 use outcome::Outcome;
 use quantity::both;
-use standard::Concrete;
-use standard::Steel;
-use standard::concrete_of;
-use standard::steel_of;
 
 // 5.6.2.
 fn links_fit(x: Column) -> bool

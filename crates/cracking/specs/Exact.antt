@@ -6,7 +6,7 @@ use Rattle.quantity.specs.Choice.{if_then_else_}
 use Rattle.quantity.specs.Rounding.{clamp}
 use Rattle.quantity.specs.Fraction.{Frac, _//_, whole, _⊕_, _⊖_, _⊗_, _⊘_, held, _≼_}
 use Rattle.quantity.specs.Unit.{exactStress}
-use Rattle.standard.specs.Steel.{Es}
+use Rattle.material.specs.Steel.{Es}
 use Rattle.section.specs.declared.Section.{Section}
 use Rattle.section.specs.Section.{b, h, h₀, c, flange, S, E, D, Mq, fyk}
 

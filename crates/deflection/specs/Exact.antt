@@ -5,7 +5,7 @@ use lib.Dec.{leb, ltb, eqb}
 use Rattle.quantity.specs.Choice.{if_then_else_}
 use Rattle.quantity.specs.Fraction.{Frac, _//_, whole, _⊕_, _⊖_, _⊗_, _⊘_, _≼_}
 use Rattle.quantity.specs.Unit.{exactStress}
-use Rattle.standard.specs.Steel.{Es}
+use Rattle.material.specs.Steel.{Es}
 use Rattle.section.specs.declared.Section.{Section}
 use Rattle.section.specs.Section.{b, h₀, l₀, S, S′, Mq}
 use Rattle.cracking.specs.Exact.{As, ψ}

@@ -5,10 +5,10 @@ use mathlib.Core.List.{List}
 use lib.Dec.{leb, ltb, eqb}
 use lib.ListN.{getD}
 use Rattle.quantity.specs.Choice.{if_then_else_}
-use Rattle.standard.specs.Table.{listed}
+use Rattle.table.specs.Table.{listed}
 use Rattle.standard.specs.Bars.{areaOf}
-use Rattle.standard.specs.Concrete.{concretes}
-use Rattle.standard.specs.Steel.{steels, linkSteels}
+use Rattle.material.specs.Concrete.{concretes}
+use Rattle.material.specs.Steel.{steels, linkSteels}
 use Rattle.domain.specs.declared.Domain.{Domain}
 use Rattle.domain.specs.declared.Domain.the-variants.{Range, ZeroOr, Bar, Grade, Steel, LinkSteel, GroupDiameter, GroupBars}
 

@@ -4,12 +4,12 @@ ghost use Prim.Native.Nat.{_<_};
 ghost use lib.Dec.{ltb};
 ghost use lib.ListN.{getD};
 ghost use Rattle.domain.specs.Domain.{between, bar, holds, asked, fieldHolds};
+use material::is_grade;
+use material::is_link_steel;
+use material::is_steel;
 use quantity::both;
 use quantity::either;
 use standard::area_of;
-use standard::is_grade;
-use standard::is_link_steel;
-use standard::is_steel;
 
 // What a field may hold.
 pub enum Domain {

@@ -8,7 +8,7 @@ use native.Mathlib.Omega.{arith}
 use lib.Dec.{leb, leb→le}
 use lib.ListN.{length, getD, drop, List·getD-append}
 use lib.Seq.{drop-cons, getD-append-add}
-use Rattle.standard.proofs.Table.{every-at}
+use Rattle.table.proofs.Table.{every-at}
 use Rattle.domain.specs.declared.Domain.{Domain}
 use Rattle.domain.specs.declared.Domain.the-variants.{Grade}
 use Rattle.field.specs.Fields.{kinds, fieldsOf, known}

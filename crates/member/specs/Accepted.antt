@@ -5,9 +5,9 @@ use mathlib.Core.Path.{_≡_}
 use mathlib.Core.Bool.{true}
 use mathlib.Core.List.{List, [], _∷_}
 use lib.ListN.{length}
-use Rattle.standard.specs.Table.{listed}
-use Rattle.standard.specs.Concrete.{concretes}
-use Rattle.standard.specs.Steel.{steels, linkSteels}
+use Rattle.table.specs.Table.{listed}
+use Rattle.material.specs.Concrete.{concretes}
+use Rattle.material.specs.Steel.{steels, linkSteels}
 use Rattle.bars.specs.Accepted.{BarFrom, AcceptedGroups}
 use Rattle.member.specs.Member.{Beam, Column, Mesh, Member, beam, column, mesh, h₀}
 use Rattle.bars.specs.Sums.{barCount, area}

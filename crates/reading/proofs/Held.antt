@@ -9,7 +9,7 @@ use lib.ListN.{length, getD, set, length-set}
 use lib.Seq.{getD-set-same, getD-set-other}
 use borrow.Author.Tests.{ltb-true}
 use Rattle.quantity.proofs.Choice.{if-case, both-true}
-use Rattle.standard.proofs.Table.{every-at}
+use Rattle.table.proofs.Table.{every-at}
 use Rattle.question.specs.declared.Question.{Question}
 use Rattle.question.specs.declared.Question.the-variants.{Field}
 use Rattle.number.specs.declared.Number.the-variants.{Value}

@@ -6,7 +6,7 @@ use lib.ListN.{length}
 use Rattle.quantity.proofs.Product.{product-most}
 use Rattle.standard.specs.Bars.{areaOf}
 use Rattle.standard.proofs.Bars.{link-area-most}
-use Rattle.standard.proofs.Materials.{usable-concrete, usable-steel, usable-links}
+use Rattle.material.proofs.Materials.{usable-concrete, usable-steel, usable-links}
 use Rattle.member.specs.Member.{Beam}
 use Rattle.bars.specs.Sums.{area}
 use Rattle.member.specs.Accepted.{AcceptedBeam}

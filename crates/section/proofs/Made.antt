@@ -5,10 +5,10 @@ use lib.Dec.{ltb}
 use Rattle.quantity.specs.declared.Length.{Length}
 use Rattle.quantity.specs.declared.Stress.{Stress}
 use Rattle.quantity.specs.Unit.{millimetres}
-use Rattle.standard.specs.declared.Concrete.{Concrete}
-use Rattle.standard.specs.declared.Steel.{Steel}
-use Rattle.standard.specs.Concrete.{concreteOf}
-use Rattle.standard.specs.Steel.{steelOf, fyvOf}
+use Rattle.material.specs.declared.Concrete.{Concrete}
+use Rattle.material.specs.declared.Steel.{Steel}
+use Rattle.material.specs.Concrete.{concreteOf}
+use Rattle.material.specs.Steel.{steelOf, fyvOf}
 use Rattle.member.specs.declared.Beam.{Beam}
 use Rattle.bars.specs.declared.Totals.{Totals}
 use Rattle.member.specs.Member.{beamOf, h₀}

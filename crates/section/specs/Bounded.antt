@@ -1,7 +1,7 @@
 -- What the checks use of the section of an accepted beam, for any materials within their bounds.
 use Prim.Native.Nat.{_*_, _≤_}
 use mathlib.Core.Path.{_≡_}
-use Rattle.standard.specs.Bounds.{UsableConcrete, UsableSteel, WholeUpTo}
+use Rattle.material.specs.Bounds.{UsableConcrete, UsableSteel, WholeUpTo}
 use Rattle.section.specs.declared.Section.{Section}
 use Rattle.section.specs.Section.{b, h, h₀, a′, s, c, l₀, flange, G, S, S′, L, E, D, M, Mq, Vd}
 

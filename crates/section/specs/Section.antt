@@ -3,11 +3,11 @@ use Prim.Native.Nat.{ℕ, _+_, _-_, _*_}
 use lib.Dec.{ltb}
 use Rattle.quantity.specs.declared.Stress.{Stress}
 use Rattle.quantity.specs.Unit.{newtons, millimetres, inUnits, inTenths, inHundredths}
-use Rattle.standard.specs.declared.Concrete.{Concrete}
-use Rattle.standard.specs.declared.Steel.{Steel}
+use Rattle.material.specs.declared.Concrete.{Concrete}
+use Rattle.material.specs.declared.Steel.{Steel}
 use Rattle.standard.specs.Bars.{areaOf}
-use Rattle.standard.specs.Concrete.{concreteOf}
-use Rattle.standard.specs.Steel.{steelOf, fyvOf}
+use Rattle.material.specs.Concrete.{concreteOf}
+use Rattle.material.specs.Steel.{steelOf, fyvOf}
 use Rattle.member.specs.Member.{Beam}
 use Rattle.bars.specs.Sums.{area, sumD, sumE}
 use Rattle.section.specs.declared.Section.{Section}

@@ -5,18 +5,18 @@ ghost use Rattle.member.specs.Accepted.{AcceptedBeam};
 ghost use Rattle.section.specs.Section.{sectionOf};
 use bars::steel_area;
 use bars::totals_of;
+use material::Concrete;
+use material::Steel;
+use material::concrete_of;
+use material::fyv_of;
+use material::steel_of;
 use member::Beam;
 use member::effective_depth;
 use quantity::Force;
 use quantity::Length;
 use quantity::Stress;
 use quantity::wide;
-use standard::Concrete;
-use standard::Steel;
 use standard::area_of;
-use standard::concrete_of;
-use standard::fyv_of;
-use standard::steel_of;
 
 // Document 01's symbols stand beside the fields.
 pub struct Section {

@@ -4,8 +4,8 @@ use mathlib.Core.Path.{_≡_, refl}
 use mathlib.Core.Bool.{true, false}
 use Rattle.quantity.specs.Rounding.{down}
 use Rattle.quantity.specs.Unit.{newtons, millimetres}
-use Rattle.standard.specs.Concrete.{concreteOf}
-use Rattle.standard.specs.Steel.{steelOf, fyvOf}
+use Rattle.material.specs.Concrete.{concreteOf}
+use Rattle.material.specs.Steel.{steelOf, fyvOf}
 use Rattle.standard.specs.Spacing.{spacingLimit}
 use Rattle.section.specs.declared.Section.{Section}
 use Rattle.shear.specs.Steps.{concreteShear, linkShear, shearCapacity, shearAbove, linkSpacing, leastLinks}

@@ -8,9 +8,9 @@ use native.Mathlib.Nat.{mul-assoc, mul-le-mul, mul-le-mul-left}
 use native.Mathlib.Omega.{arith}
 use lib.Dec.{eqb, eqb→eq, leb, leb→le, ltb}
 use lib.ListN.{getD}
-use Rattle.standard.specs.Table.{cell, listed}
+use Rattle.table.specs.Table.{cell, listed}
 use Rattle.standard.specs.Bars.{bars, areaOf}
-use Rattle.standard.proofs.Table.{listed-rule, listed-key, unlisted-cell, cell-between, key-between}
+use Rattle.table.proofs.Table.{listed-rule, listed-key, unlisted-cell, cell-between, key-between}
 
 -- every area of the table is 0.7854·d², rounded to a tenth of mm²
 unfoldable pub rounded : ℕ → ℕ

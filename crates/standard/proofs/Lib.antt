@@ -1,5 +1,3 @@
-pub mod Table
 pub mod Bars
-pub mod Materials
 pub mod Slenderness
 pub mod Mesh

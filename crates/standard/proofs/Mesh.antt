@@ -7,7 +7,7 @@ use mathlib.Core.Bool.{Bool, _&&_}
 use lib.Dec.{eqb, eqb→eq, leb, leb→le}
 use lib.ListN.{length, getD}
 use Rattle.standard.specs.Mesh.{multiples, multiple}
-use Rattle.standard.proofs.Table.{every, every-at, and-left, and-right}
+use Rattle.table.proofs.Table.{every, every-at, and-left, and-right}
 
 -- rows of 5 entries: the entry at 5·row + column
 pub multiple-found : (family cross grade s l x : ℕ) → s ≡ min grade 40 → l ≡ s - 20 →

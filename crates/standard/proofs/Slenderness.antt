@@ -4,7 +4,7 @@ use mathlib.Core.Bool.{Bool, _&&_}
 use lib.Dec.{leb, leb→le}
 use lib.ListN.{getD}
 use Rattle.standard.specs.Slenderness.{points, point}
-use Rattle.standard.proofs.Table.{every-at, and-left, and-right}
+use Rattle.table.proofs.Table.{every-at, and-left, and-right}
 
 falls : ℕ → ℕ → Bool
 falls i x = leb x 100 && (leb 1 x && leb (getD points (i + 1) 0) x)

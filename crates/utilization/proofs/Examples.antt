@@ -8,11 +8,11 @@ use lib.IntN.{negsuc}
 use lib.Ieee.{fin, ofInt, div, round, lt}
 use Rattle.quantity.specs.Rounding.{up, down, clamp}
 use Rattle.standard.specs.Bars.{areaOf}
-use Rattle.standard.specs.Concrete.{concreteOf}
+use Rattle.material.specs.Concrete.{concreteOf}
 use Rattle.standard.specs.Mesh.{multiple}
 use Rattle.standard.specs.Slenderness.{point}
 use Rattle.standard.specs.Spacing.{spacingLimit}
-use Rattle.standard.specs.Steel.{steelOf, fyvOf}
+use Rattle.material.specs.Steel.{steelOf, fyvOf}
 use Rattle.question.specs.declared.Question.the-variants.{Field}
 use Rattle.bars.specs.Sums.{barCount, area, sumD, sumE, groupArea, groupDiameters, groupSquares}
 use Rattle.relation.specs.Relation.{flangeFits, compressionFits, depthFits, beamRelation, columnRelation, meshRelation}

@@ -4,8 +4,8 @@ use mathlib.Core.Path.{refl}
 use native.Mathlib.Omega.{arith}
 use lib.Dec.{leb}
 use Rattle.quantity.proofs.Choice.{if-case}
-use Rattle.standard.specs.declared.Concrete.{Concrete}
-use Rattle.standard.specs.declared.Steel.{Steel}
+use Rattle.material.specs.declared.Concrete.{Concrete}
+use Rattle.material.specs.declared.Steel.{Steel}
 use Rattle.outcome.specs.declared.Figure.{Figure}
 use Rattle.outcome.specs.declared.Figure.the-variants.{Reached, Unreached}
 use Rattle.outcome.specs.declared.Outcome.{Outcome}

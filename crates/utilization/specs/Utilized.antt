@@ -1,8 +1,8 @@
 -- The utilization of a built member, and the whole promise of `utilization_of`.
 use mathlib.Core.Path.{_≡_}
 use lib.Dec.{leb}
-use Rattle.standard.specs.Concrete.{concreteOf}
-use Rattle.standard.specs.Steel.{steelOf}
+use Rattle.material.specs.Concrete.{concreteOf}
+use Rattle.material.specs.Steel.{steelOf}
 use Rattle.member.specs.Member.{Member, beam, column, mesh, Column, Mesh}
 use Rattle.section.specs.declared.Section.{Section}
 use Rattle.section.specs.Section.{sectionOf, M, Vd}

@@ -1,5 +1,5 @@
 -- `column::check_column` meets its contract.
-use Rattle.standard.proofs.Materials.{usable-concrete, usable-steel}
+use Rattle.material.proofs.Materials.{usable-concrete, usable-steel}
 use borrow.Author.Needs.{needs}
 use Rattle.column.proofs.check_column.Statement.{statement}
 use Rattle.column.proofs.check_column.Tie as tie

@@ -9,9 +9,9 @@ use Rattle.bars.proofs.steel_area.Reads as steel-area-reads
 use Rattle.bars.proofs.totals_of.Reads as totals-of-reads
 use Rattle.section.proofs.flange_area.Reads as flange-area-reads
 use Rattle.section.proofs.link_area.Reads as link-area-reads
-use Rattle.standard.proofs.concrete_of.Reads as concrete-of-reads
-use Rattle.standard.proofs.fyv_of.Reads as fyv-of-reads
-use Rattle.standard.proofs.steel_of.Reads as steel-of-reads
+use Rattle.material.proofs.concrete_of.Reads as concrete-of-reads
+use Rattle.material.proofs.fyv_of.Reads as fyv-of-reads
+use Rattle.material.proofs.steel_of.Reads as steel-of-reads
 
 totals-of-requires : tie.Need-totals-of-requires
 totals-of-requires c κs = search needs

@@ -7,9 +7,9 @@ use borrow.Author.Tests.{ne-eqb}
 use lib.ListN.{drop}
 use Prim.Native.Nat.{ℕ, _≤_, _<_}
 use mathlib.Core.Bool.{true}
-use Rattle.standard.specs.Table.{listed}
+use Rattle.table.specs.Table.{listed}
 use Rattle.standard.specs.Bars.{bars}
-use Rattle.standard.proofs.Table.{key-listed, key-unlisted}
+use Rattle.table.proofs.Table.{key-listed, key-unlisted}
 use Rattle.standard.proofs.is_diameter.Statement.{statement}
 use Rattle.standard.proofs.is_diameter.Tie as tie
 

@@ -3,7 +3,7 @@ use mathlib.Core.Path.{sym}
 use Prim.Native.Nat.{_≤_, _/_, _%_}
 use native.Mathlib.Omega.{arith}
 use Rattle.standard.specs.Mesh.{multiples}
-use Rattle.standard.proofs.Table.{none-of, past-rows}
+use Rattle.table.proofs.Table.{none-of, past-rows}
 use Rattle.standard.proofs.multiple_at.Statement.{statement}
 use Rattle.standard.proofs.multiple_at.Tie as tie
 

@@ -2,7 +2,7 @@
 use mathlib.Core.Path.{sym}
 use lib.ListN.{List·getD-eq-default}
 use Rattle.standard.specs.Slenderness.{points, point}
-use Rattle.standard.proofs.Table.{none-of}
+use Rattle.table.proofs.Table.{none-of}
 use Rattle.standard.proofs.point_at.Statement.{statement}
 use Rattle.standard.proofs.point_at.Tie as tie
 

@@ -1,0 +1,3 @@
+pub mod Concrete
+pub mod Steel
+pub mod Bounds

@@ -1,0 +1,1 @@
+// Tables of whole numbers, defined in specs/Table.antt; their laws are proved in proofs/Table.antt.
