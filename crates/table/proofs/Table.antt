@@ -69,7 +69,7 @@ listed-key k (r ∷ rs) e = go (listed-key k rs) (eqb k (getD r 0 0)) refl e
     go h true q e = sym (eqb→eq k (getD r 0 0) (rw q tt))
     go h false q e = h e
 
-pub unlisted-row : (k : ℕ) (rows : List (List ℕ)) → listed k rows ≡ false → row k rows ≡ []
+unlisted-row : (k : ℕ) (rows : List (List ℕ)) → listed k rows ≡ false → row k rows ≡ []
 unlisted-row k [] e = refl
 unlisted-row k (r ∷ rs) e = go (unlisted-row k rs) (eqb k (getD r 0 0)) e
   where
