@@ -63,7 +63,8 @@ pub fn put_line(out: &mut [u8], at: usize, mark: u32, o: Outcome) -> usize
 pub fn put_head(out: &mut [u8], at: usize, n: u32) -> usize
     ensures { λ r. ⌜ Put (now (out .entry)) at (lineText (headWords n)) (now (out .exit)) r ⌝ }
 {
-    let p = put_label(out, at, word_of(7, *b"members "), b' ');
+    let members = word_of(7, [b'm', b'e', b'm', b'b', b'e', b'r', b's', b' ']);
+    let p = put_label(out, at, members, b' ');
     put_number(out, p, n as u64, b'\n')
 }
 
@@ -71,8 +72,10 @@ pub fn put_head(out: &mut [u8], at: usize, n: u32) -> usize
 pub fn put_refusal(out: &mut [u8], at: usize, question: u32, member: u32) -> usize
     ensures { λ r. ⌜ Put (now (out .entry)) at (lineText (refusalWords question member)) (now (out .exit)) r ⌝ }
 {
-    let p = put_label(out, at, word_of(7, *b"refused "), b' ');
+    let refused = word_of(7, [b'r', b'e', b'f', b'u', b's', b'e', b'd', b' ']);
+    let named = word_of(6, [b'm', b'e', b'm', b'b', b'e', b'r', b' ', b' ']);
+    let p = put_label(out, at, refused, b' ');
     let q = put_number(out, p, question as u64, b' ');
-    let s = put_label(out, q, word_of(6, *b"member  "), b' ');
+    let s = put_label(out, q, named, b' ');
     put_number(out, s, member as u64, b'\n')
 }

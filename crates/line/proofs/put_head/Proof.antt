@@ -20,7 +20,7 @@ returns : tie.Need-returns
 returns c =
     let n = c .before .before in
     let m = n .before .before .before .before in
-    put-more _ _ _ (rw (m .before .word-of .ensures) at (m .put-label .ensures)) (put-end _ (n .put-number .ensures))
+    put-more _ _ _ (rw (m .before .before .word-of .ensures) at (m .put-label .ensures)) (put-end _ (n .put-number .ensures))
 
 pub put-head-spec : {M : Type 1} → statement M
 put-head-spec =
