@@ -1,3 +1,2 @@
-mod Made
 pub mod Accepted
 pub mod Unread

@@ -1,13 +1,13 @@
 // The checks of any member, by its kind.
 ghost use mathlib.Core.Path.{_≡_};
 ghost use Rattle.member.specs.Accepted.{AcceptedMember};
-ghost use Rattle.built.specs.Slots.{memberAt};
+ghost use Rattle.layout.specs.Slots.{memberAt};
 ghost use Rattle.checks.specs.Outcome.{outcomeOf};
 use beam::check_beam;
-use built::beam_of;
-use built::column_of;
-use built::mesh_of;
 use column::check_column;
+use layout::beam_of;
+use layout::column_of;
+use layout::mesh_of;
 use mesh::check_mesh;
 use outcome::Outcome;
 

@@ -1,5 +1,5 @@
 // The entries for callers in C and Rust: what crosses is a struct by value, a pointer with a length, a number. Every entry takes any input.
-ghost use Rattle.built.specs.Slots.{memberOf};
+ghost use Rattle.built.specs.Built.{memberOf};
 ghost use Rattle.lent.specs.Lent.{builtOf, lentMember};
 ghost use Rattle.report.specs.Report.{memberReportOf};
 ghost use Rattle.utilization.specs.Utilized.{answerOf};

@@ -15,8 +15,9 @@ use Rattle.domain.specs.declared.Domain.{Domain}
 use Rattle.domain.specs.declared.Domain.the-variants.{Range}
 use Rattle.domain.specs.Domain.{asked}
 use Rattle.field.specs.Fields.{groups, beamFields, columnFields, fieldsOf, known}
-use Rattle.built.specs.Slots.{slot}
-use Rattle.built.proofs.Unread.{Agree, built-same, member-same}
+use Rattle.layout.specs.Slots.{slot}
+use Rattle.layout.proofs.Unread.{Agree, member-same}
+use Rattle.built.proofs.Unread.{built-same}
 use Rattle.lists.specs.Lists.{noGroup, four}
 use Rattle.lent.specs.declared.Lent.{Lent}
 use Rattle.lent.specs.Lent.{flat, part, beamSlots, columnSlots, filled, lentSlots, slotsOf, lentMember, lentVerdict}

@@ -12,7 +12,7 @@ use Rattle.field.specs.Fields.{fieldsOf, known}
 use Rattle.slots.specs.Slots.{fieldsHold}
 use Rattle.built.specs.declared.Built.{Built}
 use Rattle.built.specs.declared.Verdict.{Verdict}
-use Rattle.built.specs.Slots.{slot, memberAt}
+use Rattle.layout.specs.Slots.{slot, memberAt}
 use Rattle.built.specs.Verdict.{ask, markInRange, memberVerdict}
 use Rattle.lists.specs.Lists.{four}
 use Rattle.lent.specs.declared.Lent.{Lent}
@@ -27,7 +27,7 @@ abbrev pub part : List ℕ → ℕ → ℕ → List ℕ
 part v i zero = []
 part v i (suc n) = slot v i ∷ part v (suc i) n
 
--- The fields of a kind with its groups, each list after its count: the order of the slots (crate `built`).
+-- The fields of a kind with its groups, each list after its count: the order of the slots (crate `layout`).
 -- A beam's counts are fields 8 (tension, the first list) and 9 (compression, the second); a column's is field 4 (the first list).
 abbrev pub beamSlots : List ℕ → List Group → List Group → List ℕ
 beamSlots v first second = part v 0 9 ++ (flat (four first) ++ (part v 9 1 ++ (flat (four second) ++ part v 10 11)))

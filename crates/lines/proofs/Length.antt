@@ -12,7 +12,7 @@ use Rattle.member.specs.Accepted.{AcceptedMember, AcceptedMembers}
 use Rattle.question.specs.declared.Question.{Question}
 use Rattle.built.specs.declared.Built.{Built}
 use Rattle.built.specs.declared.Verdict.the-variants.{Accepted}
-use Rattle.built.specs.Slots.{memberOf}
+use Rattle.built.specs.Built.{memberOf}
 use Rattle.built.specs.Verdict.{builtVerdict}
 use Rattle.built.proofs.Accepted.{accepted-built}
 use Rattle.outcome.specs.declared.Outcome.{Outcome}

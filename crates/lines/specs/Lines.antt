@@ -6,7 +6,7 @@ use Rattle.line.specs.Line.{lineWords, reportWords, lineText}
 use Rattle.question.specs.declared.Question.{Question}
 use Rattle.member.specs.Member.{Member}
 use Rattle.built.specs.declared.Built.{Built}
-use Rattle.built.specs.Slots.{memberOf}
+use Rattle.built.specs.Built.{memberOf}
 use Rattle.reading.specs.Reading.{Reading, got, no, Placed}
 use Rattle.members.specs.Members.{member}
 use Rattle.checks.specs.Outcome.{markOf, outcomeOf}

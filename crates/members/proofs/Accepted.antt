@@ -19,7 +19,7 @@ use Rattle.domain.proofs.Between.{in-between}
 use Rattle.built.specs.declared.Built.{Built}
 use Rattle.built.specs.declared.Verdict.{Verdict}
 use Rattle.built.specs.declared.Verdict.the-variants as verdicts
-use Rattle.built.specs.Slots.{memberOf}
+use Rattle.built.specs.Built.{memberOf}
 use Rattle.built.specs.Verdict.{markInRange, memberVerdict}
 use Rattle.built.proofs.Accepted.{accepted-member}
 use Rattle.reading.specs.Reading.{Reading, got, no, Placed, placed, andThen, passed, Got, ofNumber}

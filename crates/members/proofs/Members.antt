@@ -15,7 +15,7 @@ use Rattle.field.specs.Fields.{fieldsOf, known}
 use Rattle.built.specs.declared.Built.{Built}
 use Rattle.built.specs.declared.Verdict.{Verdict}
 use Rattle.built.specs.declared.Verdict.the-variants as verdicts
-use Rattle.built.specs.Slots.{memberOf}
+use Rattle.built.specs.Built.{memberOf}
 use Rattle.built.specs.Verdict.{memberVerdict}
 use Rattle.members.specs.declared.MemberRead.{MemberRead}
 use Rattle.reading.specs.Reading.{Reading, got, no, Placed, placed, andThen, ofNumber, passed, refusal, named}

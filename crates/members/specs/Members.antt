@@ -10,7 +10,7 @@ use Rattle.question.specs.declared.Refusal.{Refusal}
 use Rattle.member.specs.Member.{Member}
 use Rattle.field.specs.Fields.{fieldsOf, known}
 use Rattle.built.specs.declared.Built.{Built}
-use Rattle.built.specs.Slots.{memberOf}
+use Rattle.built.specs.Built.{memberOf}
 use Rattle.built.specs.Verdict.{markInRange, memberVerdict}
 use Rattle.reading.specs.Reading.{Reading, got, Placed, placed, andThen, passed, named}
 use Rattle.reading.specs.Fields.{checked, fields, empty}

@@ -16,7 +16,7 @@ use Rattle.member.specs.Accepted.{AcceptedMember, AcceptedMembers}
 use Rattle.built.specs.declared.Built.{Built}
 use Rattle.built.specs.declared.Verdict.the-variants.{Accepted}
 use Rattle.built.specs.declared.Verdict.the-variants as verdicts
-use Rattle.built.specs.Slots.{memberOf}
+use Rattle.built.specs.Built.{memberOf}
 use Rattle.built.specs.Verdict.{builtVerdict}
 use Rattle.built.proofs.Accepted.{accepted-built}
 use Rattle.reading.specs.Reading.{Reading, got, refusal}

@@ -8,7 +8,7 @@ use Rattle.number.specs.declared.Number.the-variants.{Value}
 use Rattle.number.specs.declared.Number.the-variants as numbers
 use Rattle.member.specs.Member.{Member}
 use Rattle.built.specs.declared.Built.{Built}
-use Rattle.built.specs.Slots.{memberOf}
+use Rattle.built.specs.Built.{memberOf}
 use Rattle.built.specs.declared.Verdict.{Verdict}
 use Rattle.built.specs.declared.Verdict.the-variants as verdicts
 use Rattle.built.specs.Verdict.{builtVerdict}

@@ -25,7 +25,8 @@ use Rattle.deflection.specs.Steps.{spanDivisor, deflection, deflectionHolds}
 use Rattle.deflection.proofs.Sizes.{divisor-between}
 use Rattle.built.specs.declared.Built.{Built}
 use Rattle.built.specs.declared.Verdict.the-variants.{Accepted, Refused}
-use Rattle.built.specs.Slots.{beamAt, columnAt, meshAt, memberAt, memberOf}
+use Rattle.layout.specs.Slots.{beamAt, columnAt, meshAt, memberAt}
+use Rattle.built.specs.Built.{memberOf}
 use Rattle.built.specs.Verdict.{builtVerdict}
 use Rattle.built.proofs.Accepted.{accepted-built}
 use Rattle.checks.specs.Outcome.{outcomeOf}

@@ -16,7 +16,7 @@ use Rattle.lap.specs.Steps.{lapLength}
 use Rattle.built.specs.declared.Built.{Built}
 use Rattle.built.specs.declared.Verdict.{Verdict}
 use Rattle.built.specs.declared.Verdict.the-variants as verdicts
-use Rattle.built.specs.Slots.{memberOf}
+use Rattle.built.specs.Built.{memberOf}
 use Rattle.built.specs.Verdict.{builtVerdict}
 use Rattle.checks.specs.Outcome.{outcomeOf}
 use Rattle.ratio.specs.declared.Utilization.{Utilization}

@@ -2,7 +2,8 @@
 use Rattle.relation.specs.Relation.{beamRelation}
 use Rattle.reinforcement.specs.Reinforcement.{beamBars, beamRatio}
 use Rattle.built.specs.Verdict.{beamVerdict}
-use Rattle.built.proofs.Accepted.{beam-in-range-of, said}
+use Rattle.layout.proofs.Held.{beam-in-range-of}
+use Rattle.built.proofs.Accepted.{said}
 use mathlib.Core.Path.{sym, _∙_}
 use borrow.Author.Needs.{needs}
 use Rattle.built.proofs.beam_verdict.Statement.{statement}

@@ -2,7 +2,8 @@
 use Rattle.relation.specs.Relation.{columnRelation}
 use Rattle.reinforcement.specs.Reinforcement.{columnBars}
 use Rattle.built.specs.Verdict.{columnVerdict}
-use Rattle.built.proofs.Accepted.{column-groups-of, said}
+use Rattle.layout.proofs.Held.{column-groups-of}
+use Rattle.built.proofs.Accepted.{said}
 use borrow.Author.Needs.{needs}
 use Rattle.built.proofs.column_verdict.Statement.{statement}
 use Rattle.built.proofs.column_verdict.Tie as tie

@@ -40,7 +40,7 @@ use denote.Exit.{yes}
 use Rattle.bars.specs.declared.Group.{Group}
 use Rattle.bars.proofs.Group as G
 use Rattle.bars.proofs.Group.Laws as G′
-use Rattle.built.specs.Slots.{memberOf}
+use Rattle.built.specs.Built.{memberOf}
 use Rattle.report.specs.Report.{memberReportOf}
 use Rattle.lists.specs.Lists.{four}
 use Rattle.lists.proofs.Copies.{Four, Copied, to-copied, goes-copied, copies, copied-said}

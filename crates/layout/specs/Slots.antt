@@ -6,7 +6,6 @@ use lib.ListN.{getD, take}
 use Rattle.quantity.specs.Choice.{if_then_else_}
 use Rattle.bars.specs.declared.Group.{Group}
 use Rattle.member.specs.Member.{Beam, Column, Mesh, Member, beam, column, mesh}
-use Rattle.built.specs.declared.Built.{Built}
 
 abbrev pub slot : List ℕ → ℕ → ℕ
 slot v i = getD v i 0
@@ -81,6 +80,3 @@ memberAt mark kind v =
     if eqb kind 1 then beam mark (beamAt v)
     else if eqb kind 2 then column mark (columnAt v)
     else mesh mark (meshAt v)
-
-abbrev pub memberOf : Built → Member
-memberOf x = memberAt (x .mark) (x .kind) (x .fields .v)

@@ -1,8 +1,8 @@
--- `built::column_of` meets its contract.
-use Rattle.built.specs.Slots.{columnAt}
+-- `layout::column_of` meets its contract.
+use Rattle.layout.specs.Slots.{columnAt}
 use borrow.Author.Needs.{needs}
-use Rattle.built.proofs.column_of.Statement.{statement}
-use Rattle.built.proofs.column_of.Tie as tie
+use Rattle.layout.proofs.column_of.Statement.{statement}
+use Rattle.layout.proofs.column_of.Tie as tie
 
 length-at-requires : tie.Need-length-at-requires
 length-at-requires c κs = search needs

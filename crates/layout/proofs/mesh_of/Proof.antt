@@ -1,8 +1,8 @@
--- `built::mesh_of` meets its contract.
-use Rattle.built.specs.Slots.{meshAt}
+-- `layout::mesh_of` meets its contract.
+use Rattle.layout.specs.Slots.{meshAt}
 use borrow.Author.Needs.{needs}
-use Rattle.built.proofs.mesh_of.Statement.{statement}
-use Rattle.built.proofs.mesh_of.Tie as tie
+use Rattle.layout.proofs.mesh_of.Statement.{statement}
+use Rattle.layout.proofs.mesh_of.Tie as tie
 
 element-copy-out-t4 : tie.Need-element-copy-out-t4
 element-copy-out-t4 c = search needs

@@ -1,10 +1,10 @@
--- `built::beam_of` meets its contract.
-use Rattle.built.proofs.Made.{beam-made}
+-- `layout::beam_of` meets its contract.
+use Rattle.layout.proofs.Made.{beam-made}
 use mathlib.Core.Path.{refl}
-use Rattle.built.specs.Slots.{beamAt}
+use Rattle.layout.specs.Slots.{beamAt}
 use borrow.Author.Needs.{needs}
-use Rattle.built.proofs.beam_of.Statement.{statement}
-use Rattle.built.proofs.beam_of.Tie as tie
+use Rattle.layout.proofs.beam_of.Statement.{statement}
+use Rattle.layout.proofs.beam_of.Tie as tie
 
 length-at-requires : tie.Need-length-at-requires
 length-at-requires c κs = search needs

@@ -1,0 +1,7 @@
+-- The member that a caller built.
+use Rattle.member.specs.Member.{Member}
+use Rattle.layout.specs.Slots.{memberAt}
+use Rattle.built.specs.declared.Built.{Built}
+
+abbrev pub memberOf : Built → Member
+memberOf x = memberAt (x .mark) (x .kind) (x .fields .v)

@@ -1,0 +1,3 @@
+mod Made
+pub mod Held
+pub mod Unread
