@@ -16,7 +16,7 @@ use Rattle.relation.proofs.Relation.{Related, related, column-order, apart-alon
 use Rattle.reinforcement.proofs.Reinforcement.{few-bars, ratio, column-few-bars}
 use Rattle.field.specs.Fields.{fieldsOf, known}
 use Rattle.slots.specs.Slots.{fieldsHold}
-use Rattle.layout.specs.Slots.{memberAt, groupsAt, beamAt, columnAt, meshAt}
+use Rattle.layout.specs.Layout.{memberAt, groupsAt, beamAt, columnAt, meshAt}
 use Rattle.domain.proofs.Between.{in-between}
 use Rattle.layout.proofs.Held.{in-range, zero-or, in-bars, a-grade, a-steel, a-link-steel, groups-some, beam-held, tension-accepted, compression-accepted, column-held, column-groups-accepted, mesh-held, known-cases}
 use Rattle.built.specs.declared.Verdict.{Verdict}

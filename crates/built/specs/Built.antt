@@ -1,6 +1,6 @@
 -- The member that a caller built.
 use Rattle.member.specs.Member.{Member}
-use Rattle.layout.specs.Slots.{memberAt}
+use Rattle.layout.specs.Layout.{memberAt}
 use Rattle.built.specs.declared.Built.{Built}
 
 abbrev pub memberOf : Built → Member

@@ -13,7 +13,7 @@ use Rattle.reinforcement.specs.Reinforcement.{beamBars, beamRatio, columnBars}
 use Rattle.domain.specs.Domain.{between}
 use Rattle.field.specs.Fields.{fieldsOf, known}
 use Rattle.slots.specs.Slots.{fieldsHold}
-use Rattle.layout.specs.Slots.{beamAt, columnAt, meshAt}
+use Rattle.layout.specs.Layout.{beamAt, columnAt, meshAt}
 use Rattle.built.specs.declared.Verdict.{Verdict}
 use Rattle.built.specs.declared.Verdict.the-variants.{Accepted, Refused}
 

@@ -3,7 +3,7 @@ ghost use mathlib.Core.Path.{_≡_};
 ghost use mathlib.Core.Bool.{true};
 ghost use Rattle.field.specs.Fields.{fieldsOf, known};
 ghost use Rattle.slots.specs.Slots.{fieldsHold};
-ghost use Rattle.layout.specs.Slots.{beamAt, columnAt, meshAt};
+ghost use Rattle.layout.specs.Layout.{beamAt, columnAt, meshAt};
 ghost use Rattle.built.specs.Verdict.{beamVerdict, columnVerdict, meshVerdict, memberVerdict, markInRange, builtVerdict};
 use domain::is_between;
 use field::is_known;

@@ -8,7 +8,7 @@ use Rattle.material.specs.Steel.{steelOf}
 use Rattle.member.specs.Member.{Member, beam, column, mesh, Beam, Column, Mesh}
 use borrow.Author.Tests.{ne-eqb}
 use Rattle.member.specs.Accepted.{AcceptedMember, AcceptedBeam, AcceptedColumn, AcceptedMesh}
-use Rattle.layout.specs.Slots.{memberAt, beamAt, columnAt, meshAt}
+use Rattle.layout.specs.Layout.{memberAt, beamAt, columnAt, meshAt}
 use Rattle.mesh.specs.Checks.{meshOutcome}
 use Rattle.column.specs.Checks.{columnOutcome}
 use Rattle.beam.specs.Checks.{beamOutcome}

@@ -1,7 +1,7 @@
 // The checks of any member, by its kind.
 ghost use mathlib.Core.Path.{_≡_};
 ghost use Rattle.member.specs.Accepted.{AcceptedMember};
-ghost use Rattle.layout.specs.Slots.{memberAt};
+ghost use Rattle.layout.specs.Layout.{memberAt};
 ghost use Rattle.checks.specs.Outcome.{outcomeOf};
 use beam::check_beam;
 use column::check_column;

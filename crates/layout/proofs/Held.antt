@@ -25,7 +25,7 @@ use Rattle.domain.specs.Domain.{between, bar, holds, asked, fieldHolds}
 use Rattle.field.specs.Fields.{groups, beamFields, columnFields, meshFields, fieldsOf, known}
 use Rattle.slots.specs.Slots.{fieldsHold}
 use Rattle.domain.proofs.Between.{in-between}
-use Rattle.layout.specs.Slots.{slot, group, groupsAt, beamAt, columnAt}
+use Rattle.layout.specs.Layout.{slot, group, groupsAt, beamAt, columnAt}
 
 -- ---- One field.
 

@@ -20,7 +20,7 @@ use Rattle.table.proofs.Table.{every, every-at, and-left, and-right}
 use Rattle.quantity.specs.Choice.{if_then_else_}
 use Rattle.field.proofs.Tables.{known-below}
 use Rattle.layout.proofs.Held.{known-cases}
-use Rattle.layout.specs.Slots.{slot, group, groupsAt, beamAt, columnAt, meshAt, memberAt}
+use Rattle.layout.specs.Layout.{slot, group, groupsAt, beamAt, columnAt, meshAt, memberAt}
 
 -- w holds what v holds, wherever v's counts name a field
 abbrev pub Agree : List Domain → List ℕ → List ℕ → Type 0

@@ -4,7 +4,7 @@ ghost use Prim.Native.Nat.{_+_, _<_};
 ghost use mathlib.Core.List.{[], _∷_};
 ghost use lib.ListN.{getD};
 ghost use Rattle.member.specs.Member.{beamOf, columnOf, meshOf};
-ghost use Rattle.layout.specs.Slots.{group, beamAt, columnAt, meshAt};
+ghost use Rattle.layout.specs.Layout.{group, beamAt, columnAt, meshAt};
 use bars::Group;
 use member::Beam;
 use member::Column;

@@ -16,7 +16,7 @@ use Rattle.field.specs.Fields.{beamFields, columnFields, fieldsOf, known}
 use Rattle.slots.specs.Slots.{fieldsHold}
 use Rattle.domain.proofs.Between.{in-between}
 use Rattle.built.specs.declared.Verdict.{Verdict}
-use Rattle.layout.specs.Slots.{slot, beamAt, columnAt}
+use Rattle.layout.specs.Layout.{slot, beamAt, columnAt}
 use Rattle.built.specs.Verdict.{ask, markInRange, memberVerdict, builtVerdict}
 use Rattle.layout.proofs.Held.{hold-at, known-cases, tension-accepted, compression-accepted, column-groups-accepted}
 use Rattle.lists.proofs.Firsts.{all-there, first-groups}

@@ -15,7 +15,7 @@ use Rattle.domain.specs.declared.Domain.{Domain}
 use Rattle.domain.specs.declared.Domain.the-variants.{Range}
 use Rattle.domain.specs.Domain.{asked}
 use Rattle.field.specs.Fields.{groups, beamFields, columnFields, fieldsOf, known}
-use Rattle.layout.specs.Slots.{slot}
+use Rattle.layout.specs.Layout.{slot}
 use Rattle.layout.proofs.Unread.{Agree, member-same}
 use Rattle.built.proofs.Unread.{built-same}
 use Rattle.lists.specs.Lists.{noGroup, four}

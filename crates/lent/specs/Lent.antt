@@ -12,7 +12,7 @@ use Rattle.field.specs.Fields.{fieldsOf, known}
 use Rattle.slots.specs.Slots.{fieldsHold}
 use Rattle.built.specs.declared.Built.{Built}
 use Rattle.built.specs.declared.Verdict.{Verdict}
-use Rattle.layout.specs.Slots.{slot, memberAt}
+use Rattle.layout.specs.Layout.{slot, memberAt}
 use Rattle.built.specs.Verdict.{ask, markInRange, memberVerdict}
 use Rattle.lists.specs.Lists.{four}
 use Rattle.lent.specs.declared.Lent.{Lent}

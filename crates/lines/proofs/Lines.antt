@@ -15,7 +15,7 @@ use Rattle.question.specs.declared.Question.{Question}
 use Rattle.outcome.specs.declared.Outcome.{Outcome}
 use Rattle.member.specs.Member.{Member, beam, column, mesh}
 use Rattle.built.specs.declared.Built.{Built}
-use Rattle.layout.specs.Slots.{memberAt, beamAt, columnAt, meshAt}
+use Rattle.layout.specs.Layout.{memberAt, beamAt, columnAt, meshAt}
 use Rattle.built.specs.Built.{memberOf}
 use Rattle.reading.specs.Reading.{Reading, got, no, placed, Placed, Got}
 use Rattle.members.specs.Members.{member, members}

@@ -12,7 +12,7 @@ use Rattle.relation.specs.Relation.{flangeFits, compressionFits, depthFits, bea
 use Rattle.reinforcement.specs.Reinforcement.{beamBars, beamRatio, columnBars}
 use Rattle.domain.specs.Domain.{holds, asked}
 use Rattle.field.specs.Fields.{fieldsOf, known}
-use Rattle.layout.specs.Slots.{beamAt, columnAt, meshAt, memberAt}
+use Rattle.layout.specs.Layout.{beamAt, columnAt, meshAt, memberAt}
 use Rattle.built.specs.Verdict.{beamVerdict, columnVerdict, meshVerdict, memberVerdict, markInRange}
 use Rattle.reading.specs.Reading.{got, no, refusal}
 use Rattle.reading.specs.Fields.{field, fields}

@@ -33,7 +33,7 @@ use Rattle.anchorage.specs.Steps.{basicLength, anchorageLength}
 use Rattle.lap.specs.Steps.{tensionLap, requiredLap, lapLength}
 use Rattle.mesh.specs.Checks.{lapOutcome, meshOutcome}
 use Rattle.built.specs.declared.Built.{Built}
-use Rattle.layout.specs.Slots.{beamAt, columnAt, meshAt, memberAt}
+use Rattle.layout.specs.Layout.{beamAt, columnAt, meshAt, memberAt}
 use Rattle.built.specs.Verdict.{beamVerdict, columnVerdict, meshVerdict, memberVerdict, markInRange, builtVerdict}
 use Rattle.ratio.specs.declared.Utilization.{Utilization}
 use Rattle.utilization.specs.declared.Answer.the-variants.{Given, Refused}

@@ -25,7 +25,7 @@ use Rattle.deflection.specs.Steps.{spanDivisor, deflection, deflectionHolds}
 use Rattle.deflection.proofs.Sizes.{divisor-between}
 use Rattle.built.specs.declared.Built.{Built}
 use Rattle.built.specs.declared.Verdict.the-variants.{Accepted, Refused}
-use Rattle.layout.specs.Slots.{beamAt, columnAt, meshAt, memberAt}
+use Rattle.layout.specs.Layout.{beamAt, columnAt, meshAt, memberAt}
 use Rattle.built.specs.Built.{memberOf}
 use Rattle.built.specs.Verdict.{builtVerdict}
 use Rattle.built.proofs.Accepted.{accepted-built}

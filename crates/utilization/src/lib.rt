@@ -4,7 +4,7 @@ ghost use Prim.Native.Nat.{_<_, _^_};
 ghost use Rattle.member.specs.Member.{columnOf, meshOf};
 ghost use Rattle.member.specs.Accepted.{AcceptedColumn, AcceptedMesh, AcceptedMember};
 ghost use Rattle.section.specs.Bounded.{Bounded};
-ghost use Rattle.layout.specs.Slots.{memberAt};
+ghost use Rattle.layout.specs.Layout.{memberAt};
 ghost use Rattle.ratio.specs.Ratio.{quotient, ExactFigures};
 ghost use Rattle.utilization.specs.Utilization.{deflectionLimit, beamUtilization, columnUtilization, meshUtilization, utilizationOf};
 ghost use Rattle.utilization.specs.Utilized.{Utilized};

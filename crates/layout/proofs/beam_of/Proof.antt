@@ -1,7 +1,7 @@
 -- `layout::beam_of` meets its contract.
 use Rattle.layout.proofs.Made.{beam-made}
 use mathlib.Core.Path.{refl}
-use Rattle.layout.specs.Slots.{beamAt}
+use Rattle.layout.specs.Layout.{beamAt}
 use borrow.Author.Needs.{needs}
 use Rattle.layout.proofs.beam_of.Statement.{statement}
 use Rattle.layout.proofs.beam_of.Tie as tie

@@ -1,5 +1,5 @@
 -- `layout::column_of` meets its contract.
-use Rattle.layout.specs.Slots.{columnAt}
+use Rattle.layout.specs.Layout.{columnAt}
 use borrow.Author.Needs.{needs}
 use Rattle.layout.proofs.column_of.Statement.{statement}
 use Rattle.layout.proofs.column_of.Tie as tie

@@ -1,5 +1,5 @@
 -- `layout::mesh_of` meets its contract.
-use Rattle.layout.specs.Slots.{meshAt}
+use Rattle.layout.specs.Layout.{meshAt}
 use borrow.Author.Needs.{needs}
 use Rattle.layout.proofs.mesh_of.Statement.{statement}
 use Rattle.layout.proofs.mesh_of.Tie as tie
