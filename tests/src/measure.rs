@@ -2,10 +2,17 @@
 
 use std::time::Instant;
 
-/// Rounds of an interleaved measurement.
-const ROUNDS: usize = 801;
-/// Aim of one batch of calls, in nanoseconds: short, so that both see the same machine.
-const BATCH: u128 = 100_000;
+/// Rounds of an interleaved measurement: their number (odd: the median is one of them), and the
+/// aim of a batch of calls in each, in nanoseconds.
+pub struct Rounds {
+    count: usize,
+    batch: u128,
+}
+
+/// Short, so that both see the same machine.
+pub const SHORT: Rounds = Rounds { count: 801, batch: 100_000 };
+/// Long, so that the processor forgets what the other one taught it.
+pub const LONG: Rounds = Rounds { count: 51, batch: 10_000_000 };
 
 /// What interleaved rounds show of two functions, in nanoseconds per call.
 pub struct Timing {
@@ -26,14 +33,14 @@ fn timed(calls: u32, work: &mut dyn FnMut()) -> f64 {
 }
 
 /// Calls that fill a batch.
-fn calls_of(work: &mut dyn FnMut()) -> u32 {
+fn calls_of(batch: u128, work: &mut dyn FnMut()) -> u32 {
     let mut calls = 1;
     loop {
         let start = Instant::now();
         for _ in 0..calls {
             work();
         }
-        if start.elapsed().as_nanos() > BATCH / 2 || calls > 1 << 24 {
+        if start.elapsed().as_nanos() > batch / 2 || calls > 1 << 24 {
             return calls;
         }
         calls *= 2;
@@ -46,10 +53,11 @@ fn sorted(mut values: Vec<f64>) -> Vec<f64> {
 }
 
 /// Times two functions turn by turn; each round changes which goes first.
-pub fn interleaved(first: &mut dyn FnMut(), second: &mut dyn FnMut()) -> Timing {
-    let (first_calls, second_calls) = (calls_of(first), calls_of(second));
+pub fn interleaved(rounds: &Rounds, first: &mut dyn FnMut(), second: &mut dyn FnMut()) -> Timing {
+    let (first_calls, second_calls) =
+        (calls_of(rounds.batch, first), calls_of(rounds.batch, second));
     let (mut firsts, mut seconds) = (Vec::new(), Vec::new());
-    for round in 0..ROUNDS {
+    for round in 0..rounds.count {
         if round % 2 == 0 {
             firsts.push(timed(first_calls, first));
             seconds.push(timed(second_calls, second));
@@ -62,11 +70,11 @@ pub fn interleaved(first: &mut dyn FnMut(), second: &mut dyn FnMut()) -> Timing 
     let ratios = sorted(ratios.collect());
     let (firsts, seconds) = (sorted(firsts), sorted(seconds));
     Timing {
-        first: firsts[ROUNDS / 2],
-        second: seconds[ROUNDS / 2],
+        first: firsts[rounds.count / 2],
+        second: seconds[rounds.count / 2],
         first_least: firsts[0],
         second_least: seconds[0],
-        ratio: ratios[ROUNDS / 2],
+        ratio: ratios[rounds.count / 2],
     }
 }
 

@@ -4,7 +4,7 @@ use std::hint::black_box;
 
 use koxaltes_tests::comparison::{Checker, Comparison, Library, Model};
 use koxaltes_tests::make::{self, encode, Random, Record};
-use koxaltes_tests::measure::{interleaved, stack_use, Timing};
+use koxaltes_tests::measure::{interleaved, stack_use, Rounds, Timing, LONG, SHORT};
 
 const ROOM: usize = 64_000;
 
@@ -59,6 +59,13 @@ fn inputs(random: &Random) -> Vec<Input> {
     ]
 }
 
+fn print_head(title: &str) {
+    println!(
+        "\n{title:44} {:>11} {:>11} {:>9} {:>9} {:>6} {:>11} {:>11} {:>6}",
+        "library", "model", "/member", "/member", "ratio", "library", "model", "ratio"
+    );
+}
+
 fn print_row(name: &str, members: usize, timing: &Timing) {
     let each = members as f64;
     println!(
@@ -80,11 +87,11 @@ fn read_all(checker: &dyn Checker, schedules: &[Vec<u8>], out: &mut [u8]) {
     }
 }
 
-fn time_schedules(input: &Input) {
+fn time_schedules(rounds: &Rounds, input: &Input) {
     let (mut left, mut right) = (vec![0; ROOM], vec![0; ROOM]);
-    let timing = interleaved(&mut || read_all(&Library, &input.schedules, &mut left), &mut || {
-        read_all(&Model, &input.schedules, &mut right)
-    });
+    let mut library = || read_all(&Library, &input.schedules, &mut left);
+    let mut model = || read_all(&Model, &input.schedules, &mut right);
+    let timing = interleaved(rounds, &mut library, &mut model);
     print_row(input.name, input.members, &timing);
 }
 
@@ -102,14 +109,16 @@ fn time_built(members: &Members) {
             let _ = black_box(checker.member_report(built, &record.first, &record.second, out));
         }
     };
-    let timing = interleaved(&mut || lines(&Library, &mut left), &mut || lines(&Model, &mut right));
+    let mut library = || lines(&Library, &mut left);
+    let timing = interleaved(&SHORT, &mut library, &mut || lines(&Model, &mut right));
     print_row(&format!("{}, line", members.name), built.len(), &timing);
     let utilizations = |checker: &dyn Checker| {
         for (record, built) in black_box(&built) {
             black_box(checker.member_utilization(built, &record.first, &record.second));
         }
     };
-    let timing = interleaved(&mut || utilizations(&Library), &mut || utilizations(&Model));
+    let mut library = || utilizations(&Library);
+    let timing = interleaved(&SHORT, &mut library, &mut || utilizations(&Model));
     print_row(&format!("{}, utilization", members.name), built.len(), &timing);
 }
 
@@ -165,18 +174,19 @@ fn main() {
     for record in members.iter().flat_map(|members| &members.records) {
         comparison.built(record).expect("equal outputs");
     }
-    println!("outputs are equal; short rounds, interleaved; no buffer is cleared between calls");
+    println!("outputs are equal; rounds interleaved; no buffer is cleared between calls");
     println!("the library allocates nothing: it links no allocator; the model keeps one Vec");
     println!("ns per call and per member: medians, then the least of the rounds");
-    println!(
-        "{:44} {:>11} {:>11} {:>9} {:>9} {:>6} {:>11} {:>11} {:>6}",
-        "", "library", "model", "/member", "/member", "ratio", "library", "model", "ratio"
-    );
+    print_head("short rounds, a tenth of a millisecond");
     for input in &inputs {
-        time_schedules(input);
+        time_schedules(&SHORT, input);
     }
     for members in &members {
         time_built(members);
+    }
+    print_head("long rounds, ten milliseconds");
+    for input in &inputs {
+        time_schedules(&LONG, input);
     }
     print_stack(&inputs, &members[..3]);
 }
