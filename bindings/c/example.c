@@ -1,4 +1,6 @@
-/* Document 01's beam 1 built by a caller: its line and its utilizations. Then the schedule on standard input, reported. */
+/* Document 01's beam 1 built by a caller: its line, its utilizations and the totals of its bars. Then the schedule on standard
+ * input, reported. */
+#include <inttypes.h>
 #include <stdio.h>
 
 #include "koxaltes.h"
@@ -43,12 +45,19 @@ static void print_utilization(koxaltes_utilization_answer a) {
     }
 }
 
+static void print_totals(koxaltes_bar_totals_answer a) {
+    if (a.question == 0) {
+        printf("bars %" PRIu64 " area %" PRIu64 ".%" PRIu64 " mm2\n", a.bars, a.area / 10, a.area % 10);
+    }
+}
+
 int main(void) {
     static uint8_t schedule[60001];
     static uint8_t out[27555];
     koxaltes_member m = beam();
     print(koxaltes_member_report(m, tension, 1, none, 0, out, sizeof out), out);
     print_utilization(koxaltes_member_utilization(m, tension, 1, none, 0));
+    print_totals(koxaltes_bar_totals(tension, 1, 1));
     m.fields[KOXALTES_BEAM_TENSION_GROUPS] = 2;
     print(koxaltes_member_report(m, tension, 1, none, 0, out, sizeof out), out);
     size_t length = fread(schedule, 1, sizeof schedule, stdin);

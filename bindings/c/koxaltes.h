@@ -1,7 +1,7 @@
 /* Koxaltes: a proved checker of reinforcement schedules, for callers in C.
  *
  * Link target/staticlib/libkoxaltes.a (`rt staticlib koxaltes`, x86-64). The library uses no heap, no global state and no
- * function of the C library but memcpy and memset; any thread may call it.
+ * function of the C library but memcpy; any thread may call it.
  *
  * Every entry takes any input: bytes, numbers and list lengths are questioned, never trusted. A caller owes what C owes: a
  * pointer that is not null and valid for its length (also where the length is 0), and an `out` that overlaps nothing else lent.
@@ -78,7 +78,7 @@ enum {
     KOXALTES_MESH_LAP_GIVEN
 };
 
-/* A built member. Its groups are lent beside it; fields past those of its kind are not read. */
+/* A built member. Its groups are lent beside it; fields past those of its kind have no effect. */
 typedef struct {
     uint32_t mark;
     uint32_t kind;
@@ -117,19 +117,33 @@ typedef struct {
     double governing;
 } koxaltes_utilization_answer;
 
+/* question 0: the totals of the groups counted. Any other: as in koxaltes_answer, all else 0. */
+typedef struct {
+    uint32_t question;
+    uint32_t member;
+    uint64_t bars;      /* their number */
+    uint64_t area;      /* tenths of mm² */
+    uint64_t diameters; /* sum of n·d for n bars of diameter d, mm */
+    uint64_t squares;   /* sum of n·d², mm² */
+} koxaltes_bar_totals_answer;
+
 /* The report of a schedule's bytes into `out`: at most 27,555 bytes. */
 koxaltes_answer koxaltes_report(const uint8_t *schedule, size_t schedule_length, uint8_t *out, size_t out_length);
 
 /* The line of one built member into `out`: at most 55 bytes. `first` are a beam's tension groups or a column's groups,
- * `second` a beam's compression groups; a list that its kind does not have is not read. */
+ * `second` a beam's compression groups. Groups past a count, and a list that the kind does not have, are not read. */
 koxaltes_answer koxaltes_member_report(koxaltes_member member, const koxaltes_group *first, size_t first_length,
                                        const koxaltes_group *second, size_t second_length, uint8_t *out,
                                        size_t out_length);
 
-/* The utilizations of one built member. */
+/* The utilizations of one built member, its lists as for koxaltes_member_report. */
 koxaltes_utilization_answer koxaltes_member_utilization(koxaltes_member member, const koxaltes_group *first,
                                                         size_t first_length, const koxaltes_group *second,
                                                         size_t second_length);
+
+/* The totals of the first `count` groups of a list, at most 4; groups past them are not read. Question 7 and member 1 where the
+ * count is above 4 or above the length, or one of those groups is out of range. A count of 0 gives zeros. */
+koxaltes_bar_totals_answer koxaltes_bar_totals(const koxaltes_group *groups, size_t groups_length, size_t count);
 
 #ifdef __cplusplus
 }

@@ -1,6 +1,7 @@
 //! Document 01's printed schedule and tabled cases.
 
 use crate::make::{encode, Record};
+use crate::model::built::{totals, Group};
 use crate::model::member::{Body, Member};
 use crate::model::report::{refusal_text, report};
 use crate::model::schedule;
@@ -130,4 +131,30 @@ fn span_limits() {
         let Body::Beam(beam) = member(&record).body else { panic!() };
         assert_eq!(100 * beam.span / beam.deflection_divisor(), limit);
     }
+}
+
+/// Number of bars, area, n·d and n·d² of the first groups of a list, or the question and its member.
+fn totals_of(list: &[(u32, u32)], count: usize) -> Result<[u64; 4], (u32, u32)> {
+    let list: Vec<Group> = list.iter().map(|&(diameter, bars)| Group { diameter, bars }).collect();
+    match totals(&list, count) {
+        Ok(bars) => Ok([u64::from(bars.count), bars.area, bars.diameters, bars.squares]),
+        Err(refusal) => Err((refusal.question, refusal.member)),
+    }
+}
+
+#[test]
+fn totals_of_lists() {
+    assert_eq!(totals_of(&[(20, 4)], 1), Ok([4, 12_568, 80, 1600]));
+    assert_eq!(totals_of(&[(20, 8), (6, 1)], 2), Ok([9, 25_419, 166, 3236]));
+    assert_eq!(totals_of(&[(50, 20); 5], 4), Ok([80, 1_570_800, 4000, 200_000]));
+    assert_eq!(totals_of(&[(25, 2), (5, 1)], 1), Ok([2, 9818, 50, 1250]));
+    assert_eq!(totals_of(&[], 0), Ok([0; 4]));
+    assert_eq!(totals_of(&[(7, 0)], 0), Ok([0; 4]));
+    for group in [(5, 1), (7, 1), (51, 1), (20, 0), (20, 21)] {
+        assert_eq!(totals_of(&[(20, 4), group], 2), Err((7, 1)));
+    }
+    assert_eq!(totals_of(&[(20, 4)], 2), Err((7, 1)));
+    assert_eq!(totals_of(&[(20, 4); 5], 5), Err((7, 1)));
+    assert_eq!(totals_of(&[(20, 4)], (1 << 32) + 1), Err((7, 1)));
+    assert_eq!(totals_of(&[(20, 4)], usize::MAX), Err((7, 1)));
 }

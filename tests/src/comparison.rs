@@ -1,9 +1,9 @@
-//! Holds a checker against the model: answers, whole buffers, utilizations, and demand 3.
+//! Holds a checker against the model: answers, whole buffers, utilizations, totals, and demand 3.
 
 use crate::branches::Tally;
 use crate::claim;
-use crate::guard::Guarded;
-use crate::library::{self, Utilization};
+use crate::guard::{Guarded, List};
+use crate::library::{self, BarTotals, Utilization};
 use crate::make::{encode, Random, Record};
 use crate::model::built::{self, Built, Group};
 use crate::model::member::Member;
@@ -12,17 +12,18 @@ use crate::model::report;
 use crate::model::schedule::{self, Refusal};
 use crate::model::utilization;
 
-/// The three entries that are compared.
+/// The four entries that are compared.
 pub trait Checker {
     fn report(&self, schedule: &[u8], out: &mut [u8]) -> Result<usize, Refusal>;
     fn member_report(
         &self,
         built: &Built,
-        first: &[Group],
-        second: &[Group],
+        first: List,
+        second: List,
         out: &mut [u8],
     ) -> Result<usize, Refusal>;
-    fn member_utilization(&self, built: &Built, first: &[Group], second: &[Group]) -> Utilization;
+    fn member_utilization(&self, built: &Built, first: List, second: List) -> Utilization;
+    fn bar_totals(&self, groups: List, count: usize) -> BarTotals;
 }
 
 /// The static library.
@@ -36,19 +37,23 @@ impl Checker for Library {
     fn member_report(
         &self,
         built: &Built,
-        first: &[Group],
-        second: &[Group],
+        first: List,
+        second: List,
         out: &mut [u8],
     ) -> Result<usize, Refusal> {
         library::member_report(built, first, second, out)
     }
 
-    fn member_utilization(&self, built: &Built, first: &[Group], second: &[Group]) -> Utilization {
+    fn member_utilization(&self, built: &Built, first: List, second: List) -> Utilization {
         library::member_utilization(built, first, second)
+    }
+
+    fn bar_totals(&self, groups: List, count: usize) -> BarTotals {
+        library::bar_totals(groups, count)
     }
 }
 
-/// The model itself.
+/// The model itself. What can be read of a list is all that it needs.
 pub struct Model;
 
 impl Checker for Model {
@@ -59,15 +64,20 @@ impl Checker for Model {
     fn member_report(
         &self,
         built: &Built,
-        first: &[Group],
-        second: &[Group],
+        first: List,
+        second: List,
         out: &mut [u8],
     ) -> Result<usize, Refusal> {
-        report::member_report(built, first, second, out)
+        report::member_report(built, first.readable(), second.readable(), out)
     }
 
-    fn member_utilization(&self, built: &Built, first: &[Group], second: &[Group]) -> Utilization {
+    fn member_utilization(&self, built: &Built, first: List, second: List) -> Utilization {
+        let (first, second) = (first.readable(), second.readable());
         Utilization::expected(utilization::member_utilization(built, first, second))
+    }
+
+    fn bar_totals(&self, groups: List, count: usize) -> BarTotals {
+        BarTotals::expected(built::totals(groups.readable(), count))
     }
 }
 
@@ -85,14 +95,36 @@ pub struct Comparison<'a, C> {
     pub schedules: u64,
     pub members: u64,
     pub built: u64,
+    pub lists: u64,
     pub calls: u64,
     pub schedule_answers: Answers,
     pub built_answers: Answers,
     pub utilization_answers: Answers,
+    pub totals_answers: Answers,
 }
 
 /// Longer than any report and any compared schedule.
 const LONGEST: usize = 128_000;
+
+/// What can be read of a list, and its length.
+type Lending<'a> = (&'a [Group], usize);
+
+/// The ways to lend a list: all of it; the groups that the count names and no more; the same groups
+/// of a longer list, whose rest cannot be read; of one whose length is 0 in its low half. A list
+/// shorter than the count is lent whole.
+fn lendings(groups: &[Group], count: usize) -> [Lending<'_>; 4] {
+    let whole = (groups, groups.len());
+    match groups.get(..count) {
+        Some(named) => [whole, (named, count), (named, groups.len() + 1), (named, 1 << 32)],
+        None => [whole; 4],
+    }
+}
+
+/// The ways to lend a built member's lists.
+fn both_lendings(record: &Record) -> impl Iterator<Item = (Lending<'_>, Lending<'_>)> {
+    let [first, second] = record.counts();
+    lendings(&record.first, first).into_iter().zip(lendings(&record.second, second))
+}
 
 /// The question answered no, or 0.
 fn question(answer: Result<usize, Refusal>) -> usize {
@@ -143,10 +175,12 @@ impl<'a, C: Checker> Comparison<'a, C> {
             schedules: 0,
             members: 0,
             built: 0,
+            lists: 0,
             calls: 0,
             schedule_answers: [0; 13],
             built_answers: [0; 13],
             utilization_answers: [0; 13],
+            totals_answers: [0; 13],
         }
     }
 
@@ -241,34 +275,60 @@ impl<'a, C: Checker> Comparison<'a, C> {
     /// One built member with a buffer of this length.
     fn built_in(&mut self, record: &Record, room: usize) -> Result<(), String> {
         let built = record.built();
-        let mut expected = self.buffer(room);
-        let [first, second, out] = &mut self.guards;
-        let (first, second) = (first.copy(&record.first), second.copy(&record.second));
-        let found = out.copy(&expected);
+        let before = self.buffer(room);
+        let mut expected = before.clone();
         let model = report::member_report(&built, &record.first, &record.second, &mut expected);
-        let checker = self.checker.member_report(&built, first, second, found);
-        self.calls += 1;
         self.built_answers[question(model)] += 1;
-        difference(|| format!("{record:?}"), (model, &expected), (checker, found))
+        let [first, second, out] = &mut self.guards;
+        for (one, other) in both_lendings(record) {
+            let (first, second) = (first.list(one), second.list(other));
+            let found = out.copy(&before);
+            let checker = self.checker.member_report(&built, first, second, found);
+            self.calls += 1;
+            let input = || format!("{record:?}\nlent {one:?} and {other:?}");
+            difference(input, (model, &expected), (checker, found))?;
+        }
+        Ok(())
     }
 
     fn utilization(&mut self, record: &Record) -> Result<(), String> {
         let built = record.built();
-        let [first, second, _] = &mut self.guards;
-        let (first, second) = (first.copy(&record.first), second.copy(&record.second));
-        let model = Utilization::expected(utilization::member_utilization(&built, first, second));
-        let checker = self.checker.member_utilization(&built, first, second);
-        self.calls += 1;
+        let answer = utilization::member_utilization(&built, &record.first, &record.second);
+        let model = Utilization::expected(answer);
         self.utilization_answers[model.question as usize] += 1;
-        if model != checker {
-            return Err(format!("{record:?}\nmodel: {model:?}\nchecker: {checker:?}"));
+        let [first, second, _] = &mut self.guards;
+        for (one, other) in both_lendings(record) {
+            let (first, second) = (first.list(one), second.list(other));
+            let checker = self.checker.member_utilization(&built, first, second);
+            self.calls += 1;
+            if model != checker {
+                let input = format!("{record:?}\nlent {one:?} and {other:?}");
+                return Err(format!("{input}\nmodel: {model:?}\nchecker: {checker:?}"));
+            }
         }
-        match built::read(&built, first, second) {
-            Ok(member) if !agrees(&member, &checker) => {
-                Err(format!("{record:?}\na share and its check disagree: {checker:?}"))
+        match built::read(&built, &record.first, &record.second) {
+            Ok(member) if !agrees(&member, &model) => {
+                Err(format!("{record:?}\na share and its check disagree: {model:?}"))
             }
             _ => Ok(()),
         }
+    }
+
+    /// The totals of the first `count` groups of a list.
+    pub fn list(&mut self, groups: &[Group], count: usize) -> Result<(), String> {
+        self.lists += 1;
+        let model = BarTotals::expected(built::totals(groups, count));
+        self.totals_answers[model.question as usize] += 1;
+        let [list, ..] = &mut self.guards;
+        for lending in lendings(groups, count) {
+            let checker = self.checker.bar_totals(list.list(lending), count);
+            self.calls += 1;
+            if model != checker {
+                let input = format!("{count} of {groups:?}\nlent {lending:?}");
+                return Err(format!("{input}\nmodel: {model:?}\nchecker: {checker:?}"));
+            }
+        }
+        Ok(())
     }
 }
 

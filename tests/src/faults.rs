@@ -1,8 +1,13 @@
 //! The comparison and the claim notice what they are there to notice.
 
+use std::os::unix::process::ExitStatusExt;
+use std::process::Command;
+
 use crate::claim::check_line;
 use crate::comparison::{Checker, Comparison, Model};
-use crate::library::Utilization;
+use crate::guard::List;
+use crate::library::{BarTotals, Utilization};
+use crate::make::record::place;
 use crate::make::{random_member, Random, Record};
 use crate::model::built::{Built, Group};
 use crate::model::member::Member;
@@ -23,6 +28,12 @@ enum Fault {
     OtherText,
     /// A share's last bit is another.
     OtherShare,
+    /// The number at this place of the answer to a list is another.
+    OtherTotal(usize),
+    /// A group past the count is taken as well, where it can be read.
+    PastCount,
+    /// A group past the count is read; the answer is right.
+    ReadPastCount,
 }
 
 struct Faulty(Fault);
@@ -40,6 +51,31 @@ impl Faulty {
         }
         answer
     }
+
+    /// The count that is taken for a list's.
+    fn count(&self, list: List, count: usize) -> usize {
+        match self.0 {
+            Fault::PastCount if count < list.readable().len() => count + 1,
+            Fault::ReadPastCount if count < list.length() => {
+                // SAFETY: none where the list's rest cannot be read; there it is to fault.
+                unsafe { list.start().wrapping_add(count).read_volatile() };
+                count
+            }
+            _ => count,
+        }
+    }
+
+    /// The member with that count of its first list.
+    fn built(&self, built: &Built, first: List) -> Built {
+        let mut built = *built;
+        let count = match built.kind {
+            1 => &mut built.fields[place::beam::TENSION],
+            2 => &mut built.fields[place::column::GROUPS],
+            _ => &mut 0,
+        };
+        *count = self.count(first, *count as usize) as u32;
+        built
+    }
 }
 
 impl Checker for Faulty {
@@ -51,20 +87,35 @@ impl Checker for Faulty {
     fn member_report(
         &self,
         built: &Built,
-        first: &[Group],
-        second: &[Group],
+        first: List,
+        second: List,
         out: &mut [u8],
     ) -> Result<usize, Refusal> {
-        let answer = Model.member_report(built, first, second, out);
+        let answer = Model.member_report(&self.built(built, first), first, second, out);
         self.spoil(answer, out)
     }
 
-    fn member_utilization(&self, built: &Built, first: &[Group], second: &[Group]) -> Utilization {
-        let mut utilization = Model.member_utilization(built, first, second);
+    fn member_utilization(&self, built: &Built, first: List, second: List) -> Utilization {
+        let mut utilization = Model.member_utilization(&self.built(built, first), first, second);
         if self.0 == Fault::OtherShare && utilization.reached[0] {
             utilization.shares[0] ^= 1;
         }
         utilization
+    }
+
+    fn bar_totals(&self, groups: List, count: usize) -> BarTotals {
+        let mut totals = Model.bar_totals(groups, self.count(groups, count));
+        match self.0 {
+            Fault::OtherMember if totals.question > 0 => totals.member += 1,
+            Fault::OtherTotal(0) => totals.question ^= 1,
+            Fault::OtherTotal(1) => totals.member ^= 1,
+            Fault::OtherTotal(2) => totals.bars ^= 1,
+            Fault::OtherTotal(3) => totals.area ^= 1,
+            Fault::OtherTotal(4) => totals.diameters ^= 1,
+            Fault::OtherTotal(_) => totals.squares ^= 1,
+            _ => {}
+        }
+        totals
     }
 }
 
@@ -72,21 +123,68 @@ fn mesh() -> Record {
     Record::mesh(3, [1, 30, 10, 1, 0, 0, 3, 1, 0, 270, 350])
 }
 
+/// Document 01's beam 1, with a group past its count.
+fn beam() -> Record {
+    let head = [250, 500, 250, 0, 40, 0, 30, 1];
+    let tail = [8, 2, 200, 1, 30, 6000, 150_000, 90_000, 120_000, 1, 0];
+    let mut record = Record::beam(1, head, &[(20, 4)], &[], tail);
+    record.first.push(Group { diameter: 12, bars: 2 });
+    record
+}
+
 #[test]
 fn faults_are_noticed() {
     let random = Random::new(1);
     let faults = [
-        (Fault::None, true, true),
-        (Fault::PastText, false, false),
-        (Fault::BufferOnRefusal, false, false),
-        (Fault::OtherMember, false, false),
-        (Fault::OtherText, false, false),
-        (Fault::OtherShare, true, false),
+        (Fault::None, true, true, true),
+        (Fault::PastText, false, false, true),
+        (Fault::BufferOnRefusal, false, false, true),
+        (Fault::OtherMember, false, false, false),
+        (Fault::OtherText, false, false, true),
+        (Fault::OtherShare, true, false, true),
+        (Fault::PastCount, true, false, false),
     ];
-    for (fault, schedule, built) in faults {
+    for (fault, schedule, built, list) in faults {
         let mut comparison = Comparison::new(Faulty(fault), &random);
         assert_eq!(comparison.records(&[mesh()]).is_ok(), schedule);
-        assert_eq!(comparison.built(&mesh()).is_ok(), built);
+        assert_eq!(comparison.built(&beam()).is_ok(), built);
+        let lists = [1, 3].map(|count| comparison.list(&beam().first, count).is_ok());
+        assert_eq!(lists.into_iter().all(|equal| equal), list);
+    }
+}
+
+#[test]
+fn other_totals_are_noticed() {
+    let random = Random::new(1);
+    for place in 0..6 {
+        let mut comparison = Comparison::new(Faulty(Fault::OtherTotal(place)), &random);
+        for count in [0, 1, 2, 3, usize::MAX] {
+            assert!(comparison.list(&beam().first, count).is_err());
+        }
+    }
+}
+
+/// Names the input of a test that is run again in a process of its own.
+const INPUT: &str = "KOXALTES_TESTS_INPUT";
+const SEGMENTATION_FAULT: i32 = 11;
+
+#[test]
+fn a_read_past_the_count_faults() {
+    if let Ok(input) = std::env::var(INPUT) {
+        let random = Random::new(1);
+        let mut comparison = Comparison::new(Faulty(Fault::ReadPastCount), &random);
+        let outcome = match input.as_str() {
+            "list" => comparison.list(&beam().first, 1),
+            "beam" => comparison.built(&beam()),
+            _ => comparison.built(&mesh()),
+        };
+        panic!("{outcome:?} after the read");
+    }
+    for input in ["list", "beam", "mesh"] {
+        let mut again = Command::new(std::env::current_exe().expect("a path"));
+        again.args(["--exact", "faults::a_read_past_the_count_faults"]).env(INPUT, input);
+        let ended = again.output().expect("a run").status;
+        assert_eq!(ended.signal(), Some(SEGMENTATION_FAULT), "{input}");
     }
 }
 
@@ -96,6 +194,7 @@ fn the_model_equals_itself_and_meets_demand_3() {
     let mut comparison = Comparison::new(Model, &random);
     assert_eq!(runs::quick(&mut comparison, &random), Ok(()));
     assert_eq!(comparison.tally.missing(), Vec::new());
+    assert!(comparison.totals_answers[0] > 0 && comparison.totals_answers[7] > 0);
 }
 
 /// The member's line without its newline.

@@ -2,6 +2,8 @@
 
 use std::ffi::{c_int, c_long, c_void};
 
+use crate::model::built::Group;
+
 extern "C" {
     fn mmap(
         address: *mut c_void,
@@ -53,6 +55,40 @@ impl Guarded {
             start.copy_from_nonoverlapping(items.as_ptr(), items.len());
             std::slice::from_raw_parts_mut(start, items.len())
         }
+    }
+
+    /// A list of this length, of which only these first groups can be read.
+    pub fn list(&mut self, (groups, length): (&[Group], usize)) -> List<'_> {
+        assert!(groups.len() <= length, "more groups than the list has");
+        List { readable: self.copy(groups), length }
+    }
+}
+
+/// A list as it is lent: start and length. It may be longer than what can be read of it; then the
+/// guard follows, and a read of the rest faults.
+#[derive(Clone, Copy)]
+pub struct List<'a> {
+    readable: &'a [Group],
+    length: usize,
+}
+
+impl<'a> List<'a> {
+    pub fn readable(&self) -> &'a [Group] {
+        self.readable
+    }
+
+    pub fn start(&self) -> *const Group {
+        self.readable.as_ptr()
+    }
+
+    pub fn length(&self) -> usize {
+        self.length
+    }
+}
+
+impl<'a> From<&'a [Group]> for List<'a> {
+    fn from(groups: &'a [Group]) -> Self {
+        List { readable: groups, length: groups.len() }
     }
 }
 

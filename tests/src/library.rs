@@ -1,6 +1,8 @@
 //! The static library's C interface.
 
-use crate::model::built::{Built, Group, FIELDS};
+use crate::guard::List;
+use crate::model::built::{Built, FIELDS};
+use crate::model::member::Bars;
 use crate::model::schedule::Refusal;
 use crate::model::utilization::Shares;
 
@@ -50,6 +52,18 @@ struct CUtilizationAnswer {
     governing: f64,
 }
 
+/// The totals of a list, or its refusal; compared as it is.
+#[repr(C)]
+#[derive(Clone, Copy, Debug, PartialEq, Eq)]
+pub struct BarTotals {
+    pub question: u32,
+    pub member: u32,
+    pub bars: u64,
+    pub area: u64,
+    pub diameters: u64,
+    pub squares: u64,
+}
+
 extern "C" {
     fn koxaltes_report(src: *const u8, n: usize, out: *mut u8, room: usize) -> CAnswer;
     fn koxaltes_member_report(
@@ -68,6 +82,7 @@ extern "C" {
         second: *const CGroup,
         n2: usize,
     ) -> CUtilizationAnswer;
+    fn koxaltes_bar_totals(groups: *const CGroup, n: usize, count: usize) -> BarTotals;
 }
 
 fn member(built: &Built) -> CMember {
@@ -75,8 +90,8 @@ fn member(built: &Built) -> CMember {
 }
 
 /// A list of groups as the library takes it; both records are two 32-bit numbers.
-fn list(groups: &[Group]) -> (*const CGroup, usize) {
-    (groups.as_ptr().cast(), groups.len())
+fn list(groups: List) -> (*const CGroup, usize) {
+    (groups.start().cast(), groups.length())
 }
 
 /// The length of the text, or the refusal. A refusal has length 0, an answer no member.
@@ -101,12 +116,13 @@ pub fn report(schedule: &[u8], out: &mut [u8]) -> Result<usize, Refusal> {
 /// The line of a built member.
 pub fn member_report(
     built: &Built,
-    first: &[Group],
-    second: &[Group],
+    first: List,
+    second: List,
     out: &mut [u8],
 ) -> Result<usize, Refusal> {
     let ((first, n1), (second, n2)) = (list(first), list(second));
-    // SAFETY: the areas are valid for their lengths; `out` overlaps none of them.
+    // SAFETY: the areas are valid for their lengths, save what is not to be read of a list; `out`
+    // overlaps none of them.
     answer(unsafe {
         koxaltes_member_report(member(built), first, n1, second, n2, out.as_mut_ptr(), out.len())
     })
@@ -143,9 +159,9 @@ impl Utilization {
 }
 
 /// The shares of a built member.
-pub fn member_utilization(built: &Built, first: &[Group], second: &[Group]) -> Utilization {
+pub fn member_utilization(built: &Built, first: List, second: List) -> Utilization {
     let ((first, n1), (second, n2)) = (list(first), list(second));
-    // SAFETY: the lists are valid for their lengths.
+    // SAFETY: the lists are valid for their lengths, save what is not to be read of them.
     let answer = unsafe { koxaltes_member_utilization(member(built), first, n1, second, n2) };
     let shares = answer.utilization;
     Utilization {
@@ -161,4 +177,29 @@ pub fn member_utilization(built: &Built, first: &[Group], second: &[Group]) -> U
         governs: answer.governs,
         governing: answer.governing.to_bits(),
     }
+}
+
+impl BarTotals {
+    /// The answer that the model gives.
+    pub fn expected(answer: Result<Bars, Refusal>) -> Self {
+        let (refusal, bars) = match answer {
+            Ok(bars) => (Refusal { question: 0, member: 0 }, bars),
+            Err(refusal) => (refusal, Bars::default()),
+        };
+        BarTotals {
+            question: refusal.question,
+            member: refusal.member,
+            bars: u64::from(bars.count),
+            area: bars.area,
+            diameters: bars.diameters,
+            squares: bars.squares,
+        }
+    }
+}
+
+/// The totals of the first `count` groups of a list.
+pub fn bar_totals(groups: List, count: usize) -> BarTotals {
+    let (groups, n) = list(groups);
+    // SAFETY: the list is valid for its length, save what is not to be read of it.
+    unsafe { koxaltes_bar_totals(groups, n, count) }
 }

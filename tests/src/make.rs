@@ -1,4 +1,4 @@
-//! Generators of schedules and built members.
+//! Generators of schedules, built members and lists.
 
 pub mod beams;
 pub mod columns;
@@ -6,6 +6,7 @@ pub mod damage;
 pub mod edges;
 pub mod equalities;
 pub mod hunts;
+pub mod lists;
 pub mod meshes;
 pub mod random;
 pub mod record;

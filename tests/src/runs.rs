@@ -2,7 +2,7 @@
 
 use crate::comparison::{Checker, Comparison};
 use crate::make::{
-    self, beams, columns, damage, edges, encode, equalities, hunts, meshes, Random, Record,
+    self, beams, columns, damage, edges, encode, equalities, hunts, lists, meshes, Random, Record,
 };
 use crate::model::built::Group;
 
@@ -23,7 +23,8 @@ pub fn all<C: Checker>(
     edge_members(comparison, random, 3 * multiplier)?;
     damaged_schedules(comparison, random, 8 * multiplier)?;
     long_schedules(comparison, random, 10 * multiplier)?;
-    built_members(comparison, random, 6000 * multiplier)
+    built_members(comparison, random, 6000 * multiplier)?;
+    group_lists(comparison, random, 6000 * multiplier)
 }
 
 /// A short run that still reaches every case.
@@ -34,7 +35,8 @@ pub fn quick<C: Checker>(comparison: &mut Comparison<C>, random: &Random) -> Out
     together(comparison, random, hunts::hunts(random, 1))?;
     every_mesh(comparison, random)?;
     every_slenderness(comparison, random)?;
-    built_members(comparison, random, 100)
+    built_members(comparison, random, 100)?;
+    group_lists(comparison, random, 100)
 }
 
 /// Schedules of few members, accepted or not.
@@ -255,6 +257,17 @@ fn built_members<C: Checker>(
         let record = make::random_member(random);
         comparison.built(&record)?;
         comparison.built(&littered(&record, random))?;
+    }
+    Ok(())
+}
+
+fn group_lists<C: Checker>(comparison: &mut Comparison<C>, random: &Random, count: u64) -> Outcome {
+    for (groups, named) in lists::list_edges() {
+        comparison.list(&groups, named)?;
+    }
+    for _ in 0..count {
+        let (groups, named) = lists::random_list(random);
+        comparison.list(&groups, named)?;
     }
     Ok(())
 }

@@ -1,4 +1,5 @@
-//! Document 01's beam 1 built by a caller: its line and its utilizations. Then the schedule on standard input, reported.
+//! Document 01's beam 1 built by a caller: its line, its utilizations and the totals of its bars. Then the schedule on standard
+//! input, reported.
 
 use koxaltes::{Beam, Group, Refusal, LONGEST_REPORT};
 use std::io::Read;
@@ -42,6 +43,9 @@ fn main() {
         let [moment, shear, width, deflection] = u.places.map(|place| place.unwrap_or(f64::NAN));
         let governing = u.governing.unwrap_or(f64::NAN);
         println!("moment {moment:.3} shear {shear:.3} width {width:.3} deflection {deflection:.3} governing {governing:.3}");
+    }
+    if let Ok(t) = koxaltes::bar_totals(&tension, 1) {
+        println!("bars {} area {}.{} mm2", t.bars, t.area / 10, t.area % 10);
     }
     let two_groups = Beam { tension_groups: 2, ..BEAM };
     print(koxaltes::member_report(&two_groups.member(1), &tension, &[], &mut out));

@@ -26,6 +26,19 @@ pub struct Utilization {
     pub governing: Option<f64>,
 }
 
+/// Totals of groups of bars.
+#[derive(Clone, Copy, Debug, PartialEq, Eq)]
+pub struct BarTotals {
+    /// The number of bars.
+    pub bars: u64,
+    /// Their area in tenths of mm².
+    pub area: u64,
+    /// The sum of n·d for n bars of diameter d, in mm.
+    pub diameters: u64,
+    /// The sum of n·d², in mm².
+    pub squares: u64,
+}
+
 /// Kind 1. Lengths in mm, moments in N·m, shear in N.
 #[derive(Clone, Copy, Debug)]
 pub struct Beam {
@@ -161,7 +174,7 @@ pub fn report<'a>(schedule: &[u8], out: &'a mut [u8]) -> Result<&'a [u8], Refusa
 }
 
 /// The line of one built member. `first` are a beam's tension groups or a column's groups, `second` a beam's compression
-/// groups; a list that the kind does not have is not read.
+/// groups. Groups past a count, and a list that the kind does not have, are not read.
 pub fn member_report<'a>(
     member: &Member,
     first: &[Group],
@@ -183,7 +196,7 @@ pub fn member_report<'a>(
     written(answer, out)
 }
 
-/// The utilizations of one built member.
+/// The utilizations of one built member, its lists as for `member_report`.
 pub fn member_utilization(
     member: &Member,
     first: &[Group],
@@ -212,4 +225,15 @@ pub fn member_utilization(
         ],
         governing: a.governs.then_some(a.governing),
     })
+}
+
+/// The totals of the first `count` groups of a list; groups past them are not read. Refused with question 7 and member 1 where
+/// the count is above 4 or above the list's length, or one of those groups is out of range. A count of 0 gives zeros.
+pub fn bar_totals(groups: &[Group], count: usize) -> Result<BarTotals, Refusal> {
+    // SAFETY: the pointer is valid for its length.
+    let a = unsafe { raw::koxaltes_bar_totals(groups.as_ptr(), groups.len(), count) };
+    if a.question != 0 {
+        return Err(Refusal { question: a.question, member: a.member });
+    }
+    Ok(BarTotals { bars: a.bars, area: a.area, diameters: a.diameters, squares: a.squares })
 }

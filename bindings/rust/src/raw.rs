@@ -8,7 +8,7 @@ pub struct Group {
     pub bars: u32,
 }
 
-/// A built member without its groups; fields in document 01's order, those past its kind's are not read.
+/// A built member without its groups; fields in document 01's order, those past its kind's have no effect.
 #[repr(C)]
 #[derive(Clone, Copy, Debug, PartialEq, Eq)]
 pub struct Member {
@@ -51,6 +51,18 @@ pub struct UtilizationAnswer {
     pub governing: f64,
 }
 
+/// Question 0: the totals. Any other: the question answered no, and its member; all else is 0.
+#[repr(C)]
+#[derive(Clone, Copy, Debug, PartialEq, Eq)]
+pub struct BarTotalsAnswer {
+    pub question: u32,
+    pub member: u32,
+    pub bars: u64,
+    pub area: u64,
+    pub diameters: u64,
+    pub squares: u64,
+}
+
 extern "C" {
     pub fn koxaltes_report(
         schedule: *const u8,
@@ -76,4 +88,10 @@ extern "C" {
         second: *const Group,
         second_length: usize,
     ) -> UtilizationAnswer;
+
+    pub fn koxaltes_bar_totals(
+        groups: *const Group,
+        groups_length: usize,
+        count: usize,
+    ) -> BarTotalsAnswer;
 }

@@ -127,22 +127,9 @@ unfolding barCount
 bars-most [] a = omega arith
 bars-most (g ∷ gs) a = omega (arith, a .0 .most, bars-most gs (a .1))
 
--- diameters lie from 6 to 50
-pub largest-most : (gs : List Group) → AcceptedGroups gs → largest gs ≤ 50
-largest-most [] a = omega arith
-largest-most (g ∷ gs) a = omega (arith, a .0 .diameter .most, largest-most gs (a .1))
-
-pub smallest-least : (gs : List Group) → AcceptedGroups gs → 6 ≤ smallest gs
-smallest-least [] a = omega arith
-smallest-least (g ∷ gs) a = omega (arith, a .0 .diameter .least, smallest-least gs (a .1))
-
 pub smallest-most : (gs : List Group) → smallest gs ≤ 50
 smallest-most [] = omega arith
 smallest-most (g ∷ gs) = omega (arith, smallest-most gs)
-
-pub largest-least : (gs : List Group) → AcceptedGroups gs → 1 ≤ length gs → 6 ≤ largest gs
-largest-least [] a h = absurd (omega arith)
-largest-least (g ∷ gs) a h = omega (arith, a .0 .diameter .least)
 
 -- What the checks use of a face or a column with at most 40 bars.
 pub record Sums (gs : List Group) : Type 0 where

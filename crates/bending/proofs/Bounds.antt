@@ -1,5 +1,5 @@
 -- How large the parts of the steps are in a section within its bounds.
-use Prim.Native.Nat.{ℕ, _-_, _*_, _≤_}
+use Prim.Native.Nat.{_-_, _*_, _≤_}
 use native.Mathlib.Nat.{mul-le-mul, mul-pos}
 use native.Mathlib.Omega.{arith}
 use Rattle.quantity.proofs.Product.{product-most}

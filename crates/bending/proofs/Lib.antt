@@ -2,4 +2,3 @@ pub mod Bounds
 pub mod Tests
 pub mod Capacity
 pub mod Exact
-pub mod Examples

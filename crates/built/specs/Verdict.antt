@@ -3,17 +3,16 @@
 use Prim.Native.Nat.{ℕ}
 use mathlib.Core.Bool.{Bool}
 use mathlib.Core.List.{List}
-use lib.Dec.{eqb}
 use Rattle.quantity.specs.Choice.{if_then_else_}
 use Rattle.question.specs.declared.Question.{Question}
 use Rattle.question.specs.declared.Question.the-variants.{Mark, Kind, Field, Relation, Bars, Ratio}
-use Rattle.member.specs.Member.{Beam, Column, Mesh}
+use Rattle.member.specs.Member.{Beam, Column, Mesh, Member, beam, column, mesh}
 use Rattle.relation.specs.Relation.{beamRelation, columnRelation, meshRelation}
 use Rattle.reinforcement.specs.Reinforcement.{beamBars, beamRatio, columnBars}
 use Rattle.domain.specs.Domain.{between}
 use Rattle.field.specs.Fields.{fieldsOf, known}
 use Rattle.slots.specs.Slots.{fieldsHold}
-use Rattle.layout.specs.Layout.{beamAt, columnAt, meshAt}
+use Rattle.layout.specs.Layout.{memberAt}
 use Rattle.built.specs.declared.Verdict.{Verdict}
 use Rattle.built.specs.declared.Verdict.the-variants.{Accepted, Refused}
 
@@ -31,11 +30,14 @@ columnVerdict x = ask Relation (columnRelation x) (ask Bars (columnBars x) Accep
 unfoldable pub meshVerdict : Mesh → Verdict
 meshVerdict x = ask Relation (meshRelation x) Accepted
 
+abbrev pub verdictOf : Member → Verdict
+verdictOf (beam mark x) = beamVerdict x
+verdictOf (column mark x) = columnVerdict x
+verdictOf (mesh mark x) = meshVerdict x
+
+-- of a member in slots, whatever its mark
 unfoldable pub memberVerdict : ℕ → List ℕ → Verdict
-memberVerdict kind v =
-    if eqb kind 1 then beamVerdict (beamAt v)
-    else if eqb kind 2 then columnVerdict (columnAt v)
-    else meshVerdict (meshAt v)
+memberVerdict kind v = verdictOf (memberAt 0 kind v)
 
 -- 5, range only
 unfoldable pub markInRange : ℕ → Bool

@@ -1,7 +1,8 @@
--- Document 01's tabled cases ("One schedule, printed"), each worked out by the definition of the checks.
-use Prim.Native.Nat.{ℕ, _*_, _/_}
-use mathlib.Core.Path.{_≡_, refl}
-use mathlib.Core.List.{[], _∷_, map}
+-- Each row holds by computation.
+use mathlib.Core.Path.{refl}
+use lib.Ieee.{ofInt, div, round, lt}
+use Rattle.text.specs.Text.{decimal, digits, valueFrom, valueOf, every, isDecimal, joinedBy, endedBy, textOf, splitMore, split, lineOf, wordOf}
+use Rattle.line.specs.Said.{figureSaid, saidBy}
 use Rattle.quantity.specs.Rounding.{up, down, clamp}
 use Rattle.standard.specs.Bars.{areaOf}
 use Rattle.material.specs.Concrete.{concreteOf}
@@ -9,11 +10,11 @@ use Rattle.standard.specs.Mesh.{multiple}
 use Rattle.standard.specs.Slenderness.{point}
 use Rattle.standard.specs.Spacing.{spacingLimit}
 use Rattle.material.specs.Steel.{steelOf, fyvOf}
-use Rattle.outcome.specs.declared.Check.the-variants.{Passed, Shear, LinkSpacing, AxialForce, Lap}
-use Rattle.outcome.specs.declared.Figure.the-variants.{Reached, Unreached}
-use Rattle.outcome.specs.Outcome.{outcome}
-use Rattle.member.specs.Member.{Member, beam, column, mesh}
-use Rattle.bars.specs.Sums.{area, sumD, sumE, groupArea, groupDiameters, groupSquares}
+use Rattle.bars.specs.Sums.{barCount, area, sumD, sumE, groupArea, groupDiameters, groupSquares}
+use Rattle.relation.specs.Relation.{flangeFits, compressionFits, depthFits, beamRelation, columnRelation, meshRelation}
+use Rattle.reinforcement.specs.Reinforcement.{beamBars, beamRatio, columnBars}
+use Rattle.domain.specs.Domain.{asked, holds, fieldHolds}
+use Rattle.field.specs.Fields.{fieldsOf, known}
 use Rattle.section.specs.Section.{sectionOf}
 use Rattle.bending.specs.Steps.{leastSteel, compressionDepth, isDeep, deepCapacity, shallowCapacity, bendingCapacity}
 use Rattle.shear.specs.Steps.{concreteShear, linkShear, shearCapacity, shearAbove, linkSpacing, leastLinks}
@@ -27,90 +28,80 @@ use Rattle.stability.specs.Steps.{interval, between, stability}
 use Rattle.anchorage.specs.Steps.{basicLength, anchorageLength}
 use Rattle.lap.specs.Steps.{tensionLap, requiredLap, lapLength}
 use Rattle.mesh.specs.Checks.{lapOutcome, meshOutcome}
-use Rattle.checks.specs.Outcome.{outcomeOf}
-
--- The three members of the printed schedule: the beam with its link spacing and shear, the column with its
--- length l0 and force, the mesh with its lap.
-
-unfoldable pub beam₁ : ℕ → ℕ → Member
-beam₁ spacing shear =
-    beam 1 (record {
-      b = 250;
-      h = 500;
-      bf = 250;
-      hf = 0;
-      aₛ = 40;
-      a′ = 0;
-      concrete = 30;
-      steel = 1;
-      tension = record { diameter = 20; bars = 4 } ∷ [];
-      compression = [];
-      link = 8;
-      legs = 2;
-      s = spacing;
-      linkSteel = 1;
-      c = 30;
-      l₀ = 6000;
-      M = 150000;
-      Mq = 90000;
-      Vd = shear;
-      environment = 1;
-      strict = 0;
-    })
-
-unfoldable pub column₂ : ℕ → ℕ → Member
-column₂ span force =
-    column 2 (record {
-      b = 400;
-      h = 400;
-      concrete = 30;
-      steel = 1;
-      groups = record { diameter = 20; bars = 8 } ∷ [];
-      link = 8;
-      s = 250;
-      l₀ = span;
-      N = force;
-    })
-
-unfoldable pub mesh₃ : ℕ → Member
-mesh₃ lap =
-    mesh 3 (record {
-      family = 1;
-      concrete = 30;
-      d = 10;
-      cross = 1;
-      paired = 0;
-      apart = 0;
-      seismic = 3;
-      lapping = 1;
-      compression = 0;
-      anchorage = 270;
-      lap = lap;
-    })
-
--- The table: members and their outcomes; φ in hundredths at l0/b of 8 and 50, where the steps write 200·b for 1; deflection limits, mm.
-pub record Table : Type 0 where
-  pub members :
-      map outcomeOf (beam₁ 200 120000 ∷ beam₁ 200 177587 ∷ beam₁ 200 177588 ∷ beam₁ 201 120000
-      ∷ column₂ 4000 2500000 ∷ column₂ 4000 2816134 ∷ column₂ 4000 2816135 ∷ column₂ (8 * 400) 2500000 ∷ column₂ (50 * 400) 2500000
-      ∷ mesh₃ 350 ∷ mesh₃ 341 ∷ [])
-      ≡ (outcome Passed (Reached 179495) (Reached 177587) (Reached 172) (Reached 1885)
-      ∷ outcome Passed (Reached 179495) (Reached 177587) (Reached 172) (Reached 1885)
-      ∷ outcome Shear (Reached 179495) (Reached 177587) Unreached Unreached
-      ∷ outcome LinkSpacing (Reached 179495) (Reached 177276) Unreached Unreached
-      ∷ outcome Passed (Reached 2816134) Unreached Unreached Unreached
-      ∷ outcome Passed (Reached 2816134) Unreached Unreached Unreached
-      ∷ outcome AxialForce (Reached 2816134) Unreached Unreached Unreached
-      ∷ outcome Passed (Reached 2873606) Unreached Unreached Unreached
-      ∷ outcome AxialForce (Reached 545985) Unreached Unreached Unreached
-      ∷ outcome Passed (Reached 263) (Reached 342) Unreached Unreached
-      ∷ outcome Lap (Reached 263) (Reached 342) Unreached Unreached
-      ∷ [])
-  pub stability-8 : stability (8 * 400) 400 ≡ 100 * (2 * 400)
-  pub stability-50 : stability (50 * 400) 400 ≡ 19 * (2 * 400)
-  pub limit-7000 : 7000 / spanDivisor 7000 0 ≡ 28
-  pub limit-9000 : 9000 / spanDivisor 9000 0 ≡ 36
+use Rattle.layout.specs.Layout.{beamAt, columnAt, meshAt, memberAt}
+use Rattle.built.specs.Verdict.{beamVerdict, columnVerdict, meshVerdict, memberVerdict, markInRange}
+use Rattle.ratio.specs.Ratio.{quotient, ratio, overFigure, overLimit}
+use Rattle.utilization.specs.Utilization.{deflectionLimit, beamUtilization, columnUtilization, meshUtilization}
+use Rattle.number.specs.Number.{numberAt, groupsAt, lastGroup}
+use Rattle.reading.specs.Fields.{field, fields}
+use Rattle.members.specs.Members.{whole, markRises, markAt, kindAt, member, members}
+use Rattle.schedule.specs.Schedule.{schedule}
+use Rattle.report.specs.Report.{reportOf}
+use Rattle.lists.specs.Lists.{namedHold}
+use Rattle.totals.specs.Totals.{barTotals}
+use Rattle.lent.specs.Lent.{lentBeam, lentColumn, lentMember, lentFieldsHold, lentVerdict}
+use Rattle.koxaltes.specs.Claim.{lentReportOf}
+use Rattle.koxaltes.specs.Utilized.{lentUtilizationOf}
+use Rattle.printing.specs.Printing.{outputOf}
+use Rattle.cases.specs.Cases.{Table}
 
 pub table : Table
-unfolding beam₁ column₂ mesh₃ beamOutcome sectionOutcome fromDepth fromBending fromShear fromSpacing fromLeastLinks fromStress fromWidth fromDeflection sectionOf areaOf concreteOf steelOf fyvOf area sumD sumE groupArea groupDiameters groupSquares leastSteel compressionDepth isDeep deepCapacity shallowCapacity bendingCapacity concreteShear linkShear shearCapacity shearAbove linkSpacing leastLinks spacingLimit stressHolds steelStress stiffening meanStress crackSpacing widthOf σ q crackWidth widthLimit flexibility curvature shortTerm longTerm deflectionOf deflection spanDivisor deflectionHolds columnOutcome linksOutcome slendernessOutcome axialOutcome steelFits linksFit slendernessFits axialCapacity stability interval between concreteArea squashLoad point meshOutcome lapOutcome anchorageLength lapLength requiredLap tensionLap basicLength multiple up down clamp
-table = record { members = refl; stability-8 = refl; stability-50 = refl; limit-7000 = refl; limit-9000 = refl }
+unfolding saidBy figureSaid lineOf wordOf split splitMore isDecimal every valueOf valueFrom outputOf reportOf textOf endedBy joinedBy decimal digits lentReportOf lentUtilizationOf lentVerdict lentMember lentBeam lentColumn lentFieldsHold namedHold barTotals numberAt groupsAt lastGroup schedule members member markAt kindAt markRises markInRange whole fields field fieldsOf known asked holds areaOf memberVerdict fieldHolds beamVerdict columnVerdict meshVerdict beamRelation flangeFits compressionFits depthFits beamBars beamRatio columnRelation columnBars meshRelation barCount memberAt beamAt columnAt meshAt beamOutcome sectionOutcome fromDepth fromBending fromShear fromSpacing fromLeastLinks fromStress fromWidth fromDeflection sectionOf concreteOf steelOf fyvOf area sumD sumE groupArea groupDiameters groupSquares leastSteel compressionDepth isDeep deepCapacity shallowCapacity bendingCapacity concreteShear linkShear shearCapacity shearAbove linkSpacing leastLinks spacingLimit stressHolds steelStress stiffening meanStress crackSpacing widthOf σ q crackWidth widthLimit flexibility curvature shortTerm longTerm deflectionOf deflection spanDivisor deflectionHolds columnOutcome linksOutcome slendernessOutcome axialOutcome steelFits linksFit slendernessFits axialCapacity stability interval between concreteArea squashLoad point meshOutcome lapOutcome anchorageLength lapLength requiredLap tensionLap basicLength multiple up down clamp beamUtilization columnUtilization meshUtilization overFigure overLimit ratio deflectionLimit quotient ofInt div round lt
+table =
+    record {
+      beam-1 = refl;
+      shear-reached = refl;
+      shear-exceeded = refl;
+      links-apart = refl;
+      column-2 = refl;
+      force-reached = refl;
+      force-exceeded = refl;
+      mesh-3 = refl;
+      lap-short = refl;
+      anchorage-short = refl;
+      compression = refl;
+      compression-above = refl;
+      stocky = refl;
+      slender = refl;
+      stability-8 = refl;
+      stability-50 = refl;
+      limit-7000 = refl;
+      limit-9000 = refl;
+      schedule-read = refl;
+      schedule-printed = refl;
+      steel-three = refl;
+      none = refl;
+      empty-file = refl;
+      all-ones = refl;
+      five-hundred = refl;
+      one-more = refl;
+      mark-zero = refl;
+      mark-stays = refl;
+      kind-four = refl;
+      cross-bar-two = refl;
+      ends-in-a-field = refl;
+      byte-left = refl;
+      total-said = refl;
+      passed-said = refl;
+      failed-said = refl;
+      placed-beam = refl;
+      placed-column = refl;
+      placed-mesh = refl;
+      built-beam = refl;
+      built-column = refl;
+      built-mesh = refl;
+      line-1 = refl;
+      line-2 = refl;
+      line-3 = refl;
+      count-above = refl;
+      totals = refl;
+      totals-above = refl;
+      utilization-1 = refl;
+      utilization-2 = refl;
+      utilization-3 = refl;
+      utilization-none = refl;
+      utilization-refused = refl;
+      governs-1 = refl;
+      governs-3 = refl;
+      governs-none = refl;
+    }

@@ -14,7 +14,6 @@ use Rattle.material.specs.Concrete.{concreteOf}
 use Rattle.material.specs.Steel.{steelOf}
 use Rattle.material.specs.Bounds.{UsableConcrete, UsableSteel}
 use Rattle.standard.specs.Mesh.{multiple}
-use Rattle.standard.specs.Slenderness.{point}
 use Rattle.material.proofs.Materials.{usable-concrete, usable-steel}
 use Rattle.standard.proofs.Mesh.{multiple-between}
 use Rattle.standard.proofs.Slenderness.{point-falls}

@@ -19,6 +19,13 @@ between lo hi x = leb lo x && leb x hi
 abbrev pub bar : ℕ → ℕ → ℕ → Bool
 bar lo hi x = between lo hi x && ltb 0 (areaOf x)
 
+-- a group's diameter, and its number of bars
+abbrev pub groupDiameter : ℕ → Bool
+groupDiameter d = bar 6 50 d
+
+abbrev pub groupBars : ℕ → Bool
+groupBars n = between 1 20 n
+
 unfoldable pub holds : Domain → ℕ → Bool
 holds (Range lo hi) x = between lo hi x
 holds (ZeroOr lo hi) x = eqb x 0 || between lo hi x
@@ -26,8 +33,8 @@ holds (Bar lo hi) x = bar lo hi x
 holds Grade x = listed x concretes
 holds Steel x = listed x steels
 holds LinkSteel x = listed x linkSteels
-holds (GroupDiameter count place) x = bar 6 50 x
-holds (GroupBars count place) x = between 1 20 x
+holds (GroupDiameter count place) x = groupDiameter x
+holds (GroupBars count place) x = groupBars x
 
 -- Whether a field is there in a member whose slots hold v: a group is, where its list's count is above its place.
 unfoldable pub asked : Domain → List ℕ → Bool

@@ -3,7 +3,7 @@ ghost use mathlib.Core.Path.{_≡_};
 ghost use Prim.Native.Nat.{_<_};
 ghost use lib.Dec.{ltb};
 ghost use lib.ListN.{getD};
-ghost use Rattle.domain.specs.Domain.{between, bar, holds, asked, fieldHolds};
+ghost use Rattle.domain.specs.Domain.{between, bar, groupDiameter, groupBars, holds, asked, fieldHolds};
 use material::is_grade;
 use material::is_link_steel;
 use material::is_steel;
@@ -40,6 +40,20 @@ fn is_bar(lo: u32, hi: u32, x: u32) -> bool
     both(is_between(lo, hi, x), 0 < area_of(x))
 }
 
+// A group's diameter.
+pub fn is_group_diameter(x: u32) -> bool
+    ensures { λ r. ⌜ r ≡ groupDiameter x ⌝ }
+{
+    is_bar(6, 50, x)
+}
+
+// A group's number of bars.
+pub fn is_group_bars(x: u32) -> bool
+    ensures { λ r. ⌜ r ≡ groupBars x ⌝ }
+{
+    is_between(1, 20, x)
+}
+
 // Question 7 of a field that holds x.
 pub fn domain_holds(d: Domain, x: u32) -> bool
     ensures { λ r. ⌜ r ≡ holds d x ⌝ }
@@ -51,8 +65,8 @@ pub fn domain_holds(d: Domain, x: u32) -> bool
         Domain::Grade => is_grade(x),
         Domain::Steel => is_steel(x),
         Domain::LinkSteel => is_link_steel(x),
-        Domain::GroupDiameter(_, _) => is_bar(6, 50, x),
-        Domain::GroupBars(_, _) => is_between(1, 20, x),
+        Domain::GroupDiameter(_, _) => is_group_diameter(x),
+        Domain::GroupBars(_, _) => is_group_bars(x),
     }
 }
 

@@ -1,6 +1,6 @@
 -- The governing utilization is one of those reached, and none of those is larger.
 use Prim.Native.Nat.{ℕ, _*_, _≤_}
-use mathlib.Core.Path.{_≡_, refl}
+use mathlib.Core.Path.{_≡_, refl, sym, _∙_}
 use mathlib.Core.Bool.{Bool, true, false, false≢true}
 use mathlib.Core.Logic.{_⊎_, inl, inr, ⊎-elim}
 use mathlib.Core.List.{List, [], _∷_}
@@ -8,6 +8,7 @@ use native.Mathlib.Nat.{le-refl, le-of-lt}
 use native.Mathlib.Omega.{arith}
 use lib.Dec.{T}
 use lib.Ieee.{Float, nan, inf, fin, up, down, lt, le}
+use lib.Ieee.Bits.{is-true}
 use lib.Ieee.Fits.{down-pos}
 use lib.Ieee.Order.{le-of-values}
 use lib.Ieee.Positive.{num, den, den-pos, through}
@@ -15,27 +16,15 @@ use borrow.Author.Tests.{ltb-true, ltb-false}
 use Rattle.quantity.specs.Choice.{if_then_else_}
 use Rattle.ratio.specs.declared.Ratio.{Ratio}
 use Rattle.ratio.specs.declared.Utilization.{Utilization}
-use Rattle.governing.specs.declared.Governing.{Governing}
-use Rattle.governing.specs.declared.Governing.the-variants.{Largest, None}
-use Rattle.governing.specs.Governing.{including, governingFrom, ratiosOf, governingOf}
-use Rattle.ratio.proofs.Division.{fair}
+use Rattle.ratio.specs.Ratio.{finiteNonneg}
+use Rattle.governing.specs.Governing.{DoubleOrNone, double, none, including, governingFrom, ratiosOf, governingOf, Among, FiniteNonneg, AtLeast, Governs}
 
--- x is the value of one that was reached
-abbrev pub Among : List Ratio → Float → Type 0
-Among [] x = ⊥
-Among (r ∷ rs) x = ((r .reached ≡ true) × (r .value ≡ x)) ⊎ Among rs x
-
--- those that were reached are finite and not negative
-abbrev pub Fair : List Ratio → Type 0
-Fair [] = Unit {0}
-Fair (r ∷ rs) = (r .reached ≡ true → T (fair (r .value))) × Fair rs
-
--- ---- The order of two fair doubles is that of their fractions.
+-- ---- The order of two finite doubles, neither negative, is that of their fractions.
 
 abbrev AtMost : Float → Float → Type 0
 AtMost x y = num x * den y ≤ num y * den x
 
-at-most-le : (x y : Float) → T (fair x) → T (fair y) → AtMost x y → T (le x y)
+at-most-le : (x y : Float) → T (finiteNonneg x) → T (finiteNonneg y) → AtMost x y → T (le x y)
 at-most-le nan y p q h = absurd p
 at-most-le (inf s) y p q h = absurd p
 at-most-le (fin true m e) y p q h = absurd p
@@ -46,7 +35,7 @@ at-most-le (fin false m e) (fin false n d) p q h =
     le-of-values (fin false m e) (fin false n d) (m * up e) (down e) (n * up d) (down d) (down-pos e) (down-pos d) (refl, refl) (refl, refl) h
 
 -- x where y < x, else y: it is at least both
-larger-of : (t : Bool) (x y : Float) → T (fair x) → T (fair y) → lt y x ≡ t → AtMost x (if t then x else y) × AtMost y (if t then x else y)
+larger-of : (t : Bool) (x y : Float) → T (finiteNonneg x) → T (finiteNonneg y) → lt y x ≡ t → AtMost x (if t then x else y) × AtMost y (if t then x else y)
 unfolding lt
 larger-of t nan y p q e = absurd p
 larger-of t (inf s) y p q e = absurd p
@@ -57,60 +46,60 @@ larger-of t (fin false m f) (fin true n d) p q e = absurd q
 larger-of true (fin false m f) (fin false n d) p q e = (le-refl _, le-of-lt (ltb-true _ _ e))
 larger-of false (fin false m f) (fin false n d) p q e = (ltb-false _ _ e, le-refl _)
 
-fair-of : (t : Bool) (x y : Float) → T (fair x) → T (fair y) → T (fair (if t then x else y))
+fair-of : (t : Bool) (x y : Float) → T (finiteNonneg x) → T (finiteNonneg y) → T (finiteNonneg (if t then x else y))
 fair-of true x y p q = p
 fair-of false x y p q = q
 
 -- ---- One more.
 
-abbrev FairSoFar : Governing → Type 0
-FairSoFar None = Unit {0}
-FairSoFar (Largest y) = T (fair y)
+abbrev FairSoFar : DoubleOrNone → Type 0
+FairSoFar none = Unit {0}
+FairSoFar (double y) = T (finiteNonneg y)
 
 -- what governs so far is at least x
-abbrev Covers : Governing → Float → Type 0
-Covers None x = ⊥
-Covers (Largest y) x = AtMost x y
+abbrev Covers : DoubleOrNone → Float → Type 0
+Covers none x = ⊥
+Covers (double y) x = AtMost x y
 
-stays-fair : (g : Governing) (t : Bool) (z : Float) → FairSoFar g → (t ≡ true → T (fair z)) → FairSoFar (including g t z)
+stays-fair : (g : DoubleOrNone) (t : Bool) (z : Float) → FairSoFar g → (t ≡ true → T (finiteNonneg z)) → FairSoFar (including g t z)
 stays-fair g false z p q = p
-stays-fair None true z p q = q refl
-stays-fair (Largest y) true z p q = fair-of (lt y z) z y (q refl) p
+stays-fair none true z p q = q refl
+stays-fair (double y) true z p q = fair-of (lt y z) z y (q refl) p
 
-stays-covered : (g : Governing) (t : Bool) (z x : Float) → FairSoFar g → (t ≡ true → T (fair z)) → Covers g x → Covers (including g t z) x
+stays-covered : (g : DoubleOrNone) (t : Bool) (z x : Float) → FairSoFar g → (t ≡ true → T (finiteNonneg z)) → Covers g x → Covers (including g t z) x
 stays-covered g false z x p q h = h
-stays-covered None true z x p q h = absurd h
-stays-covered (Largest y) true z x p q h =
+stays-covered none true z x p q h = absurd h
+stays-covered (double y) true z x p q h =
     let w = if lt y z then z else y in
     through (num x) (num y) (num w) (den x) (den y) (den w) (den-pos y) h (larger-of (lt y z) z y (q refl) p refl .1)
 
-covers-it : (g : Governing) (t : Bool) (z : Float) → t ≡ true → FairSoFar g → (t ≡ true → T (fair z)) → Covers (including g t z) z
+covers-it : (g : DoubleOrNone) (t : Bool) (z : Float) → t ≡ true → FairSoFar g → (t ≡ true → T (finiteNonneg z)) → Covers (including g t z) z
 covers-it g false z e p q = absurd (false≢true e)
-covers-it None true z e p q = le-refl _
-covers-it (Largest y) true z e p q = larger-of (lt y z) z y (q refl) p refl .0
+covers-it none true z e p q = le-refl _
+covers-it (double y) true z e p q = larger-of (lt y z) z y (q refl) p refl .0
 
 -- what governs next is what governed, or the one more
-taken : (g : Governing) (t : Bool) (z x : Float) → including g t z ≡ Largest x → (g ≡ Largest x) ⊎ ((t ≡ true) × (z ≡ x))
+taken : (g : DoubleOrNone) (t : Bool) (z x : Float) → including g t z ≡ double x → (g ≡ double x) ⊎ ((t ≡ true) × (z ≡ x))
 taken g false z x e = inl e
-taken None true z x e = inr (refl, cc)
-taken (Largest y) true z x e = pick (lt y z) e
+taken none true z x e = inr (refl, cc)
+taken (double y) true z x e = pick (lt y z) e
   where
-    pick : (t : Bool) → Largest (if t then z else y) ≡ Largest x → (Largest y ≡ Largest x) ⊎ ((true ≡ true) × (z ≡ x))
+    pick : (t : Bool) → double (if t then z else y) ≡ double x → (double y ≡ double x) ⊎ ((true ≡ true) × (z ≡ x))
     pick true d = inr (refl, cc)
     pick false d = inl d
 
 -- ---- All of them.
 
-from-fair : (g : Governing) (rs : List Ratio) → FairSoFar g → Fair rs → FairSoFar (governingFrom g rs)
+from-fair : (g : DoubleOrNone) (rs : List Ratio) → FairSoFar g → FiniteNonneg rs → FairSoFar (governingFrom g rs)
 from-fair g [] p f = p
 from-fair g (r ∷ rs) p f = from-fair _ rs (stays-fair g (r .reached) (r .value) p (f .0)) (f .1)
 
-from-covered : (g : Governing) (rs : List Ratio) (x : Float) → FairSoFar g → Fair rs → Covers g x → Covers (governingFrom g rs) x
+from-covered : (g : DoubleOrNone) (rs : List Ratio) (x : Float) → FairSoFar g → FiniteNonneg rs → Covers g x → Covers (governingFrom g rs) x
 from-covered g [] x p f h = h
 from-covered g (r ∷ rs) x p f h =
     from-covered _ rs x (stays-fair g (r .reached) (r .value) p (f .0)) (f .1) (stays-covered g (r .reached) (r .value) x p (f .0) h)
 
-from-among : (g : Governing) (rs : List Ratio) (x : Float) → FairSoFar g → Fair rs → Among rs x → Covers (governingFrom g rs) x
+from-among : (g : DoubleOrNone) (rs : List Ratio) (x : Float) → FairSoFar g → FiniteNonneg rs → Among rs x → Covers (governingFrom g rs) x
 from-among g [] x p f a = absurd a
 from-among g (r ∷ rs) x p f a =
     let q = stays-fair g (r .reached) (r .value) p (f .0) in
@@ -119,7 +108,7 @@ from-among g (r ∷ rs) x p f a =
     (λ b. from-among _ rs x q (f .1) b)
     a
 
-from-reached : (g : Governing) (rs : List Ratio) (x : Float) → governingFrom g rs ≡ Largest x → (g ≡ Largest x) ⊎ Among rs x
+from-reached : (g : DoubleOrNone) (rs : List Ratio) (x : Float) → governingFrom g rs ≡ double x → (g ≡ double x) ⊎ Among rs x
 from-reached g [] x e = inl e
 from-reached g (r ∷ rs) x e =
     ⊎-elim
@@ -129,24 +118,19 @@ from-reached g (r ∷ rs) x e =
 
 -- ---- What governs.
 
-among-fair : (rs : List Ratio) (x : Float) → Fair rs → Among rs x → T (fair x)
+among-fair : (rs : List Ratio) (x : Float) → FiniteNonneg rs → Among rs x → T (finiteNonneg x)
 among-fair [] x f a = absurd a
 among-fair (r ∷ rs) x f a = ⊎-elim (λ e. rw (← e .1) (f .0 (e .0))) (λ b. among-fair rs x (f .1) b) a
 
--- g is a double that is at least y
-abbrev pub Governs : Governing → Float → Type 0
-Governs None y = ⊥
-Governs (Largest x) y = T (le y x)
-
 module _ (u : Utilization) where
-  -- it was reached
-  pub governing-reached : (x : Float) → governingOf u ≡ Largest x → Among (ratiosOf u) x
-  governing-reached x e = ⊎-elim (λ d. absurd (let z : _≡_ {A = ℕ} 0 1 = cc in omega arith)) (λ a. a) (from-reached None (ratiosOf u) x e)
-
-  -- where one was reached, one governs that is at least it
-  pub governing-largest : (y : Float) → Fair (ratiosOf u) → Among (ratiosOf u) y → Governs (governingOf u) y
-  governing-largest y f a = go (governingOf u) (from-fair None (ratiosOf u) tt f) (from-among None (ratiosOf u) y tt f a)
+  pub governs : {g : DoubleOrNone} → g ≡ governingOf u → Governs u g
+  governs {g} e =
+      record {
+        value-is = e;
+        reached = λ x d. ⊎-elim (λ n. absurd (let z : _≡_ {A = ℕ} 0 1 = cc in omega arith)) (λ a. a) (from-reached none (ratiosOf u) x (sym e ∙ d));
+        largest = λ f y a. rw e (at-least (governingOf u) y f a (from-fair none (ratiosOf u) tt f) (from-among none (ratiosOf u) y tt f a));
+      }
     where
-      go : (g : Governing) → FairSoFar g → Covers g y → Governs g y
-      go None p h = absurd h
-      go (Largest x) p h = at-most-le y x (among-fair (ratiosOf u) y f a) p h
+      at-least : (h : DoubleOrNone) (y : Float) → FiniteNonneg (ratiosOf u) → Among (ratiosOf u) y → FairSoFar h → Covers h y → AtLeast h y
+      at-least none y f a p c = absurd c
+      at-least (double x) y f a p c = is-true (le y x) (at-most-le y x (among-fair (ratiosOf u) y f a) p c)

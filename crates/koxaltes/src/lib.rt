@@ -1,6 +1,9 @@
 // The entries for callers in C and Rust: what crosses is a struct by value, a pointer with a length, a number. Every entry takes any input.
+ghost use mathlib.Core.Path.{_≡_};
 ghost use Rattle.built.specs.Built.{memberOf};
-ghost use Rattle.lent.specs.Lent.{builtOf, lentMember};
+ghost use Rattle.lent.specs.Lent.{lentMember};
+ghost use Rattle.lent.specs.Slots.{builtOf};
+ghost use Rattle.totals.specs.Totals.{barTotals};
 ghost use Rattle.report.specs.Report.{memberReportOf};
 ghost use Rattle.utilization.specs.Utilized.{answerOf};
 ghost use Rattle.koxaltes.specs.Claim.{lentReportOf, ReportTold, MemberTold};
@@ -8,13 +11,17 @@ ghost use Rattle.koxaltes.specs.Utilized.{lentUtilizationOf, MemberUtili
 use bars::Group;
 use lent::Lent;
 use lent::built_from;
-use lists::first_four;
+use lent::first_count;
+use lent::second_count;
+use lists::first_groups;
 use report::member_report;
 use report::report;
 use told::Told;
 use told::UtilizationTold;
 use told::tell;
 use told::tell_utilization;
+use totals::BarTotals;
+use totals::copied_totals;
 use utilization::utilization_of;
 
 // The report of a schedule's bytes.
@@ -42,7 +49,12 @@ pub extern "C" fn koxaltes_member_report(
 ) -> Told
     ensures { λ r. ⌜ MemberTold (lentReportOf x (now (first .entry)) (now (second .entry))) (lentMember x (now (first .entry)) (now (second .entry))) (now (out .entry)) (now (out .exit)) r ⌝ }
 {
-    tell_member(x, first_four(first), first_four(second), out)
+    tell_member(
+        x,
+        first_groups(first, first_count(x)),
+        first_groups(second, second_count(x)),
+        out,
+    )
 }
 
 fn tell_member_utilization(x: Lent, first: [Group; 4], second: [Group; 4]) -> UtilizationTold
@@ -60,5 +72,17 @@ pub extern "C" fn koxaltes_member_utilization(
 ) -> UtilizationTold
     ensures { λ r. ⌜ MemberUtilized (lentUtilizationOf x (now (first .entry)) (now (second .entry))) (lentMember x (now (first .entry)) (now (second .entry))) r ⌝ }
 {
-    tell_member_utilization(x, first_four(first), first_four(second))
+    tell_member_utilization(
+        x,
+        first_groups(first, first_count(x)),
+        first_groups(second, second_count(x)),
+    )
+}
+
+// The totals of the first `count` groups of a list: number of bars, area, n·d, n·d².
+#[no_mangle]
+pub extern "C" fn koxaltes_bar_totals(groups: &[Group], count: usize) -> BarTotals
+    ensures { λ r. ⌜ r ≡ barTotals count (now (groups .entry)) ⌝ }
+{
+    copied_totals(first_groups(groups, count), count)
 }

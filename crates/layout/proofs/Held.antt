@@ -9,8 +9,7 @@ use native.Mathlib.Omega.{arith}
 use mathlib.Core.Logic.{_⊎_, inl, inr, ⊎-elim}
 use lib.Dec.{T, ltb, eqb, ltb→lt}
 use lib.ListN.{length, getD, take, length-take}
-use borrow.Author.Tests.{ltb-true, lt-ltb, eqb-true}
-use Rattle.standard.specs.Bars.{areaOf}
+use borrow.Author.Tests.{lt-ltb, eqb-true}
 use Rattle.table.specs.Table.{listed}
 use Rattle.material.specs.Concrete.{concretes}
 use Rattle.material.specs.Steel.{steels, linkSteels}
@@ -21,10 +20,10 @@ use Rattle.member.specs.Accepted.{BeamInRange}
 use Rattle.quantity.proofs.Choice.{both-true}
 use Rattle.domain.specs.declared.Domain.{Domain}
 use Rattle.domain.specs.declared.Domain.the-variants.{Range, ZeroOr, Bar, Grade, Steel, LinkSteel, GroupDiameter, GroupBars}
-use Rattle.domain.specs.Domain.{between, bar, holds, asked, fieldHolds}
+use Rattle.domain.specs.Domain.{holds, asked, fieldHolds}
 use Rattle.field.specs.Fields.{groups, beamFields, columnFields, meshFields, fieldsOf, known}
 use Rattle.slots.specs.Slots.{fieldsHold}
-use Rattle.domain.proofs.Between.{in-between}
+use Rattle.domain.proofs.Between.{in-between, a-bar}
 use Rattle.layout.specs.Layout.{slot, group, groupsAt, beamAt, columnAt}
 
 -- ---- One field.
@@ -42,12 +41,6 @@ hold-at fs v e k h = rw zero-add at (hold-from fs 0 v e k h)
 either-true : (a b : Bool) → (a || b) ≡ true → (a ≡ true) ⊎ (b ≡ true)
 either-true true b e = inl refl
 either-true false b e = inr e
-
-a-bar : (lo hi x : ℕ) → bar lo hi x ≡ true → BarFrom lo hi x
-a-bar lo hi x e =
-    let t = both-true (between lo hi x) _ e in
-    let r = in-between {lo = lo} {hi = hi} {x = x} (t .0) in
-    record { least = r .0; most = r .1; listed = ltb-true 0 (areaOf x) (t .1) }
 
 module _ (v : List ℕ) (i : ℕ) where
   pub in-range : (lo hi : ℕ) → fieldHolds (Range lo hi) i v ≡ true → (lo ≤ slot v i) × (slot v i ≤ hi)

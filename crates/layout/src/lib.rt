@@ -13,7 +13,7 @@ use quantity::Force;
 use quantity::Length;
 use quantity::wide;
 
-fn index(x: u32) -> usize
+pub fn index(x: u32) -> usize
     ensures { λ r. ⌜ r ≡ x ⌝ }
 {
     x as usize

@@ -7,8 +7,8 @@ use native.Mathlib.Omega.{arith}
 use lib.ListN.{getD, set}
 use lib.Seq.{sets}
 use Rattle.bars.specs.declared.Group.{Group}
-use Rattle.lists.specs.Lists.{noGroup, four}
-use Rattle.lent.specs.Lent.{flat, part}
+use Rattle.lists.specs.Copied.{noGroup, four}
+use Rattle.lent.specs.Slots.{flat, part}
 
 -- a turn: one field is stored, and then those left
 pub field-stored : (v s : List ℕ) (p f left : ℕ) → 0 < left → sets (set v p (getD s f 0)) (p + 1) (part s (f + 1) (left - 1)) ≡ sets v p (part s f left)

@@ -1,74 +1,110 @@
--- A built member whose groups of bars are lent beside it as lists of records (document 01, "Schedule bytes": "Bar groups are lent as a list of such records").
-use Prim.Native.Nat.{ℕ, zero, suc}
-use mathlib.Core.Bool.{Bool, true, _&&_}
-use mathlib.Core.List.{List, [], _∷_, _++_}
-use lib.Dec.{eqb, leb}
-use lib.ListN.{length, drop, replicate}
+-- A member that a caller built: its mark, its kind, the fields of its kind in the order of document 01 without the groups, and its groups of bars,
+-- lent beside it as two lists of records: tension and compression of a beam; of a column the first alone; of a mesh none.
+use Prim.Native.Nat.{ℕ}
+use mathlib.Core.Bool.{Bool, true, false, _&&_}
+use mathlib.Core.List.{List, [], _∷_}
+use lib.Dec.{eqb}
+use lib.ListN.{getD, take}
 use Rattle.quantity.specs.Choice.{if_then_else_}
 use Rattle.question.specs.declared.Question.the-variants.{Mark, Kind, Field}
 use Rattle.bars.specs.declared.Group.{Group}
-use Rattle.member.specs.Member.{Member}
+use Rattle.member.specs.Member.{Beam, Column, Member, beam, column, mesh}
+use Rattle.domain.specs.declared.Domain.{Domain}
+use Rattle.domain.specs.declared.Domain.the-variants.{Range, ZeroOr, Bar, Grade, Steel, LinkSteel, GroupDiameter, GroupBars}
 use Rattle.field.specs.Fields.{fieldsOf, known}
 use Rattle.slots.specs.Slots.{fieldsHold}
-use Rattle.built.specs.declared.Built.{Built}
+use Rattle.layout.specs.Layout.{meshAt}
 use Rattle.built.specs.declared.Verdict.{Verdict}
-use Rattle.layout.specs.Layout.{slot, memberAt}
-use Rattle.built.specs.Verdict.{ask, markInRange, memberVerdict}
-use Rattle.lists.specs.Lists.{four}
+use Rattle.built.specs.Verdict.{ask, markInRange, verdictOf}
+use Rattle.lists.specs.Lists.{namedHold}
 use Rattle.lent.specs.declared.Lent.{Lent}
 
--- groups as fields: the diameter and the bars of each
-abbrev pub flat : List Group → List ℕ
-flat [] = []
-flat (g ∷ gs) = g .diameter ∷ g .bars ∷ flat gs
+-- ---- The member.
 
--- the n fields from field i on
-abbrev pub part : List ℕ → ℕ → ℕ → List ℕ
-part v i zero = []
-part v i (suc n) = slot v i ∷ part v (suc i) n
+-- field i, as the caller gave it
+abbrev pub given : List ℕ → ℕ → ℕ
+given v i = getD v i 0
 
--- The fields of a kind with its groups, each list after its count: the order of the slots (crate `layout`).
--- A beam's counts are fields 8 (tension, the first list) and 9 (compression, the second); a column's is field 4 (the first list).
-abbrev pub beamSlots : List ℕ → List Group → List Group → List ℕ
-beamSlots v first second = part v 0 9 ++ (flat (four first) ++ (part v 9 1 ++ (flat (four second) ++ part v 10 11)))
+-- its groups are the first of each list, as many as its count says
+unfoldable pub lentBeam : List ℕ → List Group → List Group → Beam
+lentBeam v first second =
+    record {
+      b = given v 0;
+      h = given v 1;
+      bf = given v 2;
+      hf = given v 3;
+      aₛ = given v 4;
+      a′ = given v 5;
+      concrete = given v 6;
+      steel = given v 7;
+      tension = take (given v 8) first;
+      compression = take (given v 9) second;
+      link = given v 10;
+      legs = given v 11;
+      s = given v 12;
+      linkSteel = given v 13;
+      c = given v 14;
+      l₀ = given v 15;
+      M = given v 16;
+      Mq = given v 17;
+      Vd = given v 18;
+      environment = given v 19;
+      strict = given v 20;
+    }
 
-abbrev pub columnSlots : List ℕ → List Group → List ℕ
-columnSlots v first = part v 0 5 ++ (flat (four first) ++ part v 5 4)
+unfoldable pub lentColumn : List ℕ → List Group → Column
+lentColumn v first =
+    record {
+      b = given v 0;
+      h = given v 1;
+      concrete = given v 2;
+      steel = given v 3;
+      groups = take (given v 4) first;
+      link = given v 5;
+      s = given v 6;
+      l₀ = given v 7;
+      N = given v 8;
+    }
 
-abbrev pub meshSlots : List ℕ → List ℕ
-meshSlots v = part v 0 11
-
--- 40 slots: those given, then zeros
-abbrev pub filled : List ℕ → List ℕ
-filled s = s ++ drop (length s) (replicate 40 0)
-
-unfoldable pub lentSlots : ℕ → List ℕ → List Group → List Group → List ℕ
-lentSlots kind v first second =
-    if eqb kind 1 then filled (beamSlots v first second)
-    else if eqb kind 2 then filled (columnSlots v first)
-    else filled (meshSlots v)
-
-abbrev pub slotsOf : Lent → List Group → List Group → List ℕ
-slotsOf x first second = lentSlots (x .kind) (x .fields .v) first second
-
-abbrev pub builtOf : Lent → List Group → List Group → Built
-builtOf x first second = record { mark = x .mark; kind = x .kind; fields = record { v = slotsOf x first second } }
-
+-- a mesh has no groups: field i stands in place i, as in a schedule
 unfoldable pub lentMember : Lent → List Group → List Group → Member
-lentMember x first second = memberAt (x .mark) (x .kind) (slotsOf x first second)
+lentMember x first second =
+    if eqb (x .kind) 1 then beam (x .mark) (lentBeam (x .fields .v) first second)
+    else if eqb (x .kind) 2 then column (x .mark) (lentColumn (x .fields .v) first)
+    else mesh (x .mark) (meshAt (x .fields .v))
 
--- "a built member's count above the length of its list is a no to 7"
-unfoldable pub countsHold : ℕ → List ℕ → List Group → List Group → Bool
-countsHold kind v first second =
-    if eqb kind 1 then leb (slot v 8) (length first) && leb (slot v 9) (length second)
-    else if eqb kind 2 then leb (slot v 4) (length first)
-    else true
+-- ---- Its questions: 5 (range only) and 6 to 10.
 
--- 5 (range only) and 6 to 10
+-- the fields of a kind without those of its groups
+abbrev isGroup : Domain → Bool
+isGroup (GroupDiameter count place) = true
+isGroup (GroupBars count place) = true
+isGroup (Range lo hi) = false
+isGroup (ZeroOr lo hi) = false
+isGroup (Bar lo hi) = false
+isGroup Grade = false
+isGroup Steel = false
+isGroup LinkSteel = false
+
+abbrev pub ungrouped : List Domain → List Domain
+ungrouped [] = []
+ungrouped (d ∷ ds) = if isGroup d then ungrouped ds else d ∷ ungrouped ds
+
+-- how many groups of the first and of the second list the counts name
+abbrev pub firstCount : ℕ → List ℕ → ℕ
+firstCount kind v = if eqb kind 1 then given v 8 else if eqb kind 2 then given v 4 else 0
+
+abbrev pub secondCount : ℕ → List ℕ → ℕ
+secondCount kind v = if eqb kind 1 then given v 9 else 0
+
+-- 7
+unfoldable pub lentFieldsHold : ℕ → List ℕ → List Group → List Group → Bool
+lentFieldsHold kind v first second =
+    fieldsHold (ungrouped (fieldsOf kind)) 0 v && (namedHold (firstCount kind v) first && namedHold (secondCount kind v) second)
+
 unfoldable pub lentVerdict : Lent → List Group → List Group → Verdict
 lentVerdict x first second =
     ask Mark (markInRange (x .mark))
     (ask Kind (known (x .kind))
-    (ask Field (countsHold (x .kind) (x .fields .v) first second)
-    (ask Field (fieldsHold (fieldsOf (x .kind)) 0 (slotsOf x first second))
-    (memberVerdict (x .kind) (slotsOf x first second)))))
+    (ask Field (lentFieldsHold (x .kind) (x .fields .v) first second)
+    (verdictOf (lentMember x first second))))

@@ -3,13 +3,15 @@ ghost use mathlib.Core.Path.{_≡_};
 ghost use Prim.Native.Nat.{_+_, _≤_};
 ghost use lib.ListN.{set};
 ghost use lib.Seq.{sets};
-ghost use Rattle.lists.specs.Lists.{four};
-ghost use Rattle.lent.specs.Lent.{flat, part, beamSlots, columnSlots, meshSlots, filled, lentSlots, builtOf};
+ghost use Rattle.lists.specs.Copied.{four};
+ghost use Rattle.lent.specs.Lent.{firstCount, secondCount};
+ghost use Rattle.lent.specs.Slots.{flat, part, beamSlots, columnSlots, meshSlots, filled, lentSlots, builtOf};
 use bars::Group;
 use built::Built;
+use layout::index;
 use slots::Slots;
 
-// The fields of a kind in the order of a schedule, without the groups: 21 of a beam, 9 of a column, 11 of a mesh. Those past them are not read.
+// The fields of a kind in the order of a schedule, without the groups: 21 of a beam, 9 of a column, 11 of a mesh. Those past them have no effect.
 #[repr(C)]
 pub struct Fields {
     pub v: [u32; 24],
@@ -21,6 +23,33 @@ pub struct Lent {
     pub mark: u32,
     pub kind: u32,
     pub fields: Fields,
+}
+
+// How many groups of the first list the counts name: a beam's in tension, a column's.
+pub fn first_count(x: Lent) -> usize
+    ensures { λ r. ⌜ r ≡ firstCount (x .kind) (x .fields .v) ⌝ }
+{
+    let f = x.fields;
+    let v = f.v;
+    let kind = x.kind;
+    match kind {
+        1 => index(v[8]),
+        2 => index(v[4]),
+        _ => 0,
+    }
+}
+
+// How many groups of the second list: a beam's in compression.
+pub fn second_count(x: Lent) -> usize
+    ensures { λ r. ⌜ r ≡ secondCount (x .kind) (x .fields .v) ⌝ }
+{
+    let f = x.fields;
+    let v = f.v;
+    let kind = x.kind;
+    match kind {
+        1 => index(v[9]),
+        _ => 0,
+    }
 }
 
 // The slots from `at` on hold `count` fields from field `from` on.

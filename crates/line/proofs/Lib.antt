@@ -1,4 +1,3 @@
 pub mod Text
 pub mod Said
 pub mod Length
-mod Examples

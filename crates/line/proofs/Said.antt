@@ -12,7 +12,7 @@ use Rattle.outcome.specs.declared.Figure.{Figure}
 use Rattle.outcome.specs.declared.Figure.the-variants.{Reached, Unreached}
 use Rattle.outcome.specs.declared.Outcome.{Outcome}
 use Rattle.outcome.specs.Outcome.{nameOf}
-use Rattle.line.specs.Line.{figureWord, lineWords, headWords, refusalWords, reportWords, lineText}
+use Rattle.line.specs.Line.{figureWord, lineWords, headWords, reportWords, lineText}
 use Rattle.line.specs.Said.{Said, figureSaid, saidBy}
 use Rattle.name.proofs.Names.{name-graphic}
 
@@ -34,11 +34,6 @@ line-graphic mark o =
 pub head-graphic : (n : ℕ) → All (All Graphic) (headWords n)
 unfolding every
 head-graphic n = all-and (graphic _ refl) (all-and (decimal-graphic n) all-none)
-
-pub refusal-graphic : (question member : ℕ) → All (All Graphic) (refusalWords question member)
-unfolding every
-refusal-graphic question member =
-    all-and (graphic _ refl) (all-and (decimal-graphic question) (all-and (graphic _ refl) (all-and (decimal-graphic member) all-none)))
 
 -- ---- One line
 

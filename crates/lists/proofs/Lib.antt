@@ -1,2 +1,2 @@
-pub mod Firsts
+pub mod Named
 pub mod Copies

@@ -1,12 +1,19 @@
--- Groups of bars copied out of lists that a caller lends (document 01, "Schedule bytes": "Bar groups are lent as a list of such records").
+-- Question 7 of groups of bars in lists that a caller lends (document 01, "Schedule bytes": "Bar groups are lent as a list of such records").
+use Prim.Native.Nat.{ℕ}
+use mathlib.Core.Bool.{Bool, true, _&&_}
 use mathlib.Core.List.{List, [], _∷_}
-use lib.ListN.{getD}
+use lib.Dec.{leb}
+use lib.ListN.{length, take}
 use Rattle.bars.specs.declared.Group.{Group}
+use Rattle.domain.specs.Domain.{groupDiameter, groupBars}
 
--- what stands for a group past the end of its list
-abbrev pub noGroup : Group
-noGroup = record { diameter = 0; bars = 0 }
+abbrev pub groupHolds : Group → Bool
+groupHolds g = groupDiameter (g .diameter) && groupBars (g .bars)
 
--- the first four of a list
-abbrev pub four : List Group → List Group
-four gs = getD gs 0 noGroup ∷ getD gs 1 noGroup ∷ getD gs 2 noGroup ∷ getD gs 3 noGroup ∷ []
+abbrev pub groupsHold : List Group → Bool
+groupsHold [] = true
+groupsHold (g ∷ gs) = groupHolds g && groupsHold gs
+
+-- "a built member's count above the length of its list is a no to 7"; of the groups themselves, those that the count names are asked
+unfoldable pub namedHold : ℕ → List Group → Bool
+namedHold count list = leb count (length list) && groupsHold (take count list)

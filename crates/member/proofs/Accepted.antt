@@ -7,6 +7,3 @@ use Rattle.member.specs.Accepted.{AcceptedBeam}
 -- the tension steel lies in the lower half
 pub depth-least : (x : Beam) → AcceptedBeam x → 20 ≤ h₀ x
 depth-least x a = omega (arith, a .aₛ-least, a .faces)
-
-pub depth-half : (x : Beam) → AcceptedBeam x → x .aₛ ≤ h₀ x
-depth-half x a = omega (arith, a .faces)

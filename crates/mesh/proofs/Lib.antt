@@ -1,2 +1,1 @@
 pub mod Safe
-pub mod Examples

@@ -1,4 +1,3 @@
 pub mod Groups
-pub mod Progress
 pub mod Encoded
 pub mod Examples

@@ -1,6 +1,6 @@
 -- What the two runs give: a text that fits or not, and what was written.
 use Prim.Native.Nat.{ℕ, _<_, _≤_}
-use mathlib.Core.Path.{_≡_, refl, sym, ap, _∙_}
+use mathlib.Core.Path.{_≡_, refl, ap}
 use mathlib.Core.List.{List}
 use native.Mathlib.Omega.{arith}
 use native.Mathlib.Decide.{decLe}
@@ -15,14 +15,15 @@ use Rattle.reading.specs.Reading.{refusal}
 use Rattle.reading.specs.Reading as reading
 use Rattle.printed.specs.declared.Answer.{Answer}
 use Rattle.printed.specs.declared.Answer.the-variants.{Written, Refused}
-use Rattle.printed.specs.Printed.{answered, bufferAfter, Printed}
+use Rattle.question.proofs.Numbers.{numbered}
+use Rattle.printed.specs.Printed.{written, refused, numbersOf, answered, bufferAfter, Printed}
 
 -- a text that fits
 pub printed-whole : (whose : ℕ) (text d : List ℕ) {d′ : List ℕ} {r : ℕ} → length text ≤ length d → Put d 0 text d′ r → Printed whose text d d′ (Written r)
 printed-whole whose text d {r = r} short w =
     let s = le-leb (length text) (length d) short in
     let l : r ≡ length text = learnt-length w (omega (arith, w .short)) in
-    record { answer-is = rw s (ap Written l); buffer-is = rw s (put-whole w short) }
+    record { answer-is = rw s (ap written l); buffer-is = rw s (put-whole w short) }
 
 module _ (whose : ℕ) (text d : List ℕ) (e e′ : List ℕ) (n : ℕ) (first : Put e 0 text e′ n) where
   pub printed : {d′ : List ℕ} {r : ℕ} → length d < lastPosition → n ≤ length d → Put d 0 text d′ r → Printed whose text d d′ (Written r)
@@ -31,23 +32,22 @@ module _ (whose : ℕ) (text d : List ℕ) (e e′ : List ℕ) (n : ℕ) (first 
   pub unprinted : {a : Answer} → a ≡ Refused (refusal Buffer whose) → length d < n → Printed whose text d d a
   unprinted q h =
       let s = lt-leb (length text) (length d) (too-long first h) in
-      record { answer-is = rw s q; buffer-is = rw s }
+      record { answer-is = rw s (ap numbersOf q); buffer-is = rw s }
 
 -- what was written is the text
-pub text-written : (whose : ℕ) (text d d′ : List ℕ) (a : Answer) (n : ℕ) → Printed whose text d d′ a → a ≡ Written n → take n d′ ≡ text
-text-written whose text d d′ a n p e = go (decLe (length text) (length d))
+pub text-written : (whose : ℕ) (text d d′ : List ℕ) (a : Answer) → Printed whose text d d′ a → numbersOf a .question ≡ 0 → take (numbersOf a .length) d′ ≡ text
+text-written whose text d d′ a p e = go (decLe (length text) (length d))
   where
-    go : Dec (length text ≤ length d) → take n d′ ≡ text
+    go : Dec (length text ≤ length d) → take (numbersOf a .length) d′ ≡ text
     go (yes h) =
         let s = le-leb (length text) (length d) h in
-        let w : Written n ≡ Written (length text) = sym e ∙ (rw s at (p .answer-is)) in
-        let l : n ≡ length text = cc in
-        rw (l, (rw s at (p .buffer-is))) (take-append-seam text (drop (length text) d))
+        let w : numbersOf a ≡ written (length text) = rw s at (p .answer-is) in
+        rw (w, (rw s at (p .buffer-is))) (take-append-seam text (drop (length text) d))
     go (no h) =
         let g : length d < length text = omega arith in
-        let w : Written n ≡ Refused (refusal Buffer whose) = sym e ∙ (rw (lt-leb (length text) (length d) g) at (p .answer-is)) in
-        absurd (let z : _≡_ {A = ℕ} 0 1 = cc in omega arith)
+        let w : numbersOf a ≡ refused (refusal Buffer whose) = rw (lt-leb (length text) (length d) g) at (p .answer-is) in
+        absurd (numbered Buffer (rw w at e))
 
 -- a refusal: its answer, and the buffer as it was
-pub refused-is : (whose : ℕ) (r : Refusal) (d : List ℕ) → (Refused r ≡ answered whose (reading.no r) (length d)) × (d ≡ bufferAfter (reading.no r) d)
+pub refused-is : (whose : ℕ) (r : Refusal) (d : List ℕ) → (numbersOf (Refused r) ≡ answered whose (reading.no r) (length d)) × (d ≡ bufferAfter (reading.no r) d)
 refused-is whose r d = (refl, refl)

@@ -3,15 +3,19 @@ use Prim.Native.Nat.{ℕ, _≤_}
 use mathlib.Core.Path.{_≡_}
 use mathlib.Core.List.{List, _++_}
 use lib.Dec.{leb}
-use lib.ListN.{length, drop}
+use lib.ListN.{length, take, drop}
 use Rattle.quantity.specs.Choice.{if_then_else_}
 use Rattle.text.specs.Put.{Put}
 use Rattle.line.specs.Line.{refusalWords, lineText}
 use Rattle.question.specs.declared.Question.the-variants.{Buffer}
 use Rattle.question.specs.declared.Refusal.{Refusal}
 use Rattle.question.specs.Question.{numberOf}
+use Rattle.member.specs.Member.{Member}
 use Rattle.reading.specs.Reading.{Reading, got, no, refusal}
+use Rattle.schedule.specs.Schedule.{schedule}
+use Rattle.lines.specs.Lines.{reportText}
 use Rattle.report.specs.Report.{reportOf}
+use Rattle.report.specs.Claim.{SafeReport}
 
 -- refused N member M
 abbrev pub refusalText : Refusal → List ℕ
@@ -36,3 +40,5 @@ pub record PrintedSchedule (src before after : List ℕ) (n : ℕ) : Type 0 wher
   pub put : Put before 0 (shown (askRoom (length before) (reportOf src))) after n
   -- 60,000 bytes are room for every report: then the output is whole, 12 is never the refusal, and the bytes past the output stay
   pub whole : 60000 ≤ length before → (n ≡ length (outputOf src)) × (after ≡ outputOf src ++ drop (length (outputOf src)) before)
+  -- demand 3 of the text, wherever the report fits
+  pub claim : (ms : List Member) → schedule src ≡ got ms → length (reportText ms) ≤ length before → SafeReport ms (take n after)

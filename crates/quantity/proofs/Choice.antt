@@ -1,5 +1,5 @@
--- What holds of the case that a test picks; both of two tests.
-use mathlib.Core.Path.{_≡_, refl}
+-- What holds of the case that a test picks; laws of tests joined by `&&`.
+use mathlib.Core.Path.{_≡_, refl, sym}
 use mathlib.Core.Bool.{Bool, true, false, _&&_, false≢true}
 use Rattle.quantity.specs.Choice.{if_then_else_}
 
@@ -10,3 +10,25 @@ if-case P false x y f g = g refl
 pub both-true : (a b : Bool) → (a && b) ≡ true → (a ≡ true) × (b ≡ true)
 both-true true b e = (refl, e)
 both-true false b e = absurd (false≢true e)
+
+pub and-true : (a : Bool) → (a && true) ≡ a
+and-true true = refl
+and-true false = refl
+
+pub and-false : (a : Bool) → (a && false) ≡ false
+and-false true = refl
+and-false false = refl
+
+pub and-assoc : (a b c : Bool) → (a && b && c) ≡ (a && (b && c))
+and-assoc true b c = refl
+and-assoc false b c = refl
+
+pub and-comm : (a b : Bool) → (a && b) ≡ (b && a)
+and-comm true b = sym (and-true b)
+and-comm false b = sym (and-false b)
+
+-- two tests that hold together are the same
+pub same-test : (a b : Bool) → (a ≡ true → b ≡ true) → (b ≡ true → a ≡ true) → a ≡ b
+same-test true b f g = sym (f refl)
+same-test false true f g = g refl
+same-test false false f g = refl

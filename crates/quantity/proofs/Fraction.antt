@@ -123,7 +123,7 @@ module _ {a b x y : Frac} (u : Same a b) (v : Same x y) where
         same = quotient-core (a .num) (a .den) (b .num) (b .den) (x .num) (x .den) (y .num) (y .den) (u .same) (v .same);
       }
 
--- A product goes into each of them, and a factor of a quotient's lower part cancels.
+-- A product goes into a smaller and a larger of two and into a difference.
 module _ (a b c : Frac) (p : 0 < a .den) (q : 0 < b .den) (r : 0 < c .den) where
   pub product-smaller : Same (smaller a b ⊗ c) (smaller (a ⊗ c) (b ⊗ c))
   unfolding _⊗_ smaller
@@ -140,41 +140,15 @@ module _ (a b c : Frac) (p : 0 < a .den) (q : 0 < b .den) (r : 0 < c .den) where
   product-difference =
       record { pos = mul-pos (mul-pos p q) r; pos′ = mul-pos (mul-pos p r) (mul-pos q r); same = simp level }
 
-  pub product-sum : Same ((a ⊕ b) ⊗ c) ((a ⊗ c) ⊕ (b ⊗ c))
-  unfolding _⊗_ _⊕_
-  product-sum =
-      record { pos = mul-pos (mul-pos p q) r; pos′ = mul-pos (mul-pos p r) (mul-pos q r); same = simp level }
-
-  pub quotient-cancel : (0 < b .num) × (0 < c .num) → Same ((a ⊘ (b ⊗ c)) ⊗ c) (a ⊘ b)
-  unfolding _⊗_ _⊘_
-  quotient-cancel f =
-      record { pos = mul-pos (mul-pos p (mul-pos (f .0) (f .1))) r; pos′ = mul-pos p (f .0); same = simp level }
-
 -- The lower parts stay above 0.
 module _ (a b : Frac) (p : 0 < a .den) (q : 0 < b .den) where
-  pub proper-sum : Proper (a ⊕ b)
-  unfolding _⊕_
-  proper-sum = mul-pos p q
-
   pub proper-difference : Proper (a ⊖ b)
   unfolding _⊖_
   proper-difference = mul-pos p q
 
-  pub proper-smaller : Proper (smaller a b)
-  unfolding smaller
-  proper-smaller = mul-pos p q
-
   pub proper-larger : Proper (larger a b)
   unfolding larger
   proper-larger = mul-pos p q
-
-  pub proper-product : Proper (a ⊗ b)
-  unfolding _⊗_
-  proper-product = mul-pos p q
-
-  pub proper-quotient : 0 < b .num → Proper (a ⊘ b)
-  unfolding _⊘_
-  proper-quotient r = mul-pos p r
 
 -- Order and nearness.
 le-core : (n d m k x y : ℕ) → n * k ≡ m * d → n * y ≤ x * d → m * y * d ≤ x * k * d
@@ -215,14 +189,6 @@ pub ≺-same : {a b : Frac} (x : Frac) → Same a b → x ≺ a → x ≺ b
 pub ≼-trans : (a b c : Frac) → Proper b → a ≼ b → b ≼ c → a ≼ c
 ≼-trans a b c p u v =
     le-of-mul-le-mul-right (≼-core (a .num) (a .den) (b .num) (b .den) (c .num) (c .den) u v) p
-
-≺-core : (n d m k r s : ℕ) → n * k * s < m * d * s → m * s ≤ r * k → n * s * k < r * d * k
-≺-core n d m k r s u v = simp expand (omega (arith, simp expand at u, simp expand at (mul-le-mul-right d v)))
-
-pub ≺-≼-trans : (a b c : Frac) → Proper c → a ≺ b → b ≼ c → a ≺ c
-≺-≼-trans a b c p u v =
-    lt-of-mul-lt-mul-right (b .den)
-    (≺-core (a .num) (a .den) (b .num) (b .den) (c .num) (c .den) (mul-lt-mul-of-pos-right u p) v)
 
 pub scale-≼ : (k : ℕ) (a l : Frac) → 0 < k → whole k ⊗ a ≼ whole k ⊗ l → a ≼ l
 unfolding _⊗_

@@ -85,18 +85,6 @@ near-weaken {a = a} n p =
       most* = omega (arith, mul-le-mul-right (a .den) (p .2));
     }
 
--- A bound that is known from elsewhere, of one that lies at or above its exact figure.
-pub near-bounded : {M x h X : ℕ} {a : Frac} (X′ : ℕ) → (0 < M) × (x ≤ X′) → Near M x a 0 h X → Near M x a 0 h X′
-near-bounded {M} {x} {a = a} X′ p n =
-    let t : M * a .num ≤ M * (x * a .den) = omega arith in
-    record {
-      pos = n .pos;
-      low = n .low;
-      high = n .high;
-      most = p .1;
-      most* = omega (arith, le-of-mul-le-mul-left t (p .0), mul-le-mul-right (a .den) (p .1));
-    }
-
 -- A multiple.
 pub near-times : {M x l h X : ℕ} {a : Frac} (k : ℕ) → Near M x a l h X → Near M (k * x) (times k a) (k * l) (k * h) (k * X)
 unfolding times
@@ -141,12 +129,6 @@ near-up {M} {x} {l} {h} {X} {d} p n =
     near-div (up x d) 0 d p (omega (arith, up-above x p)) (omega (arith, up-below x p))
     (up-le p (omega (arith, ceil-above X p))) (omega (arith, ceil-above l p))
     (simp expand (omega (arith, ceil-above h p))) (ceil-above X p) n
-
-pub near-down : {M x l h X d : ℕ} {a : Frac} → 0 < d → Near M x a l h X → Near M (down x d) (over a d) (ceil l d + M) (ceil h d) (ceil X d)
-near-down {M} {x} {l} {h} {X} {d} p n =
-    near-div (down x d) d 0 p (omega (arith, simp expand at (down-above x p))) (omega (arith, down-below x d))
-    (down-le p (omega (arith, ceil-above X p))) (simp expand (omega (arith, ceil-above l p)))
-    (omega (arith, ceil-above h p)) (ceil-above X p) n
 
 ratio-le : (k d p q h : ℕ) → 0 < q → k * q ≤ p * d → k * h ≤ ceil (p * h) q * d
 ratio-le k d p q h u v =

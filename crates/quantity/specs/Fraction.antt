@@ -1,7 +1,6 @@
 -- Exact fractions, compared by cross-multiplying.
 -- Pairs of whole numbers, the lower one above 0 (`Proper`).
 use Prim.Native.Nat.{ℕ, _+_, _-_, _*_, _<_, _≤_, min, max}
-use mathlib.Core.Path.{_≡_}
 
 infixl 80 _//_
 infixl 70 _⊗_
@@ -10,7 +9,6 @@ infixl 65 _⊕_
 infixl 65 _⊖_
 infix 50 _≼_
 infix 50 _≺_
-infix 50 _≈_
 pub record Frac : Type 0 where
   pub num : ℕ
   pub den : ℕ
@@ -48,15 +46,12 @@ larger a b = max (a .num * b .den) (a .den * b .num) // (a .den * b .den)
 unfoldable pub held : Frac → Frac → Frac → Frac
 held lo hi a = smaller hi (larger lo a)
 
--- at most, below, equal
+-- at most, below
 abbrev pub _≼_ : Frac → Frac → Type 0
 a ≼ b = a .num * b .den ≤ b .num * a .den
 
 abbrev pub _≺_ : Frac → Frac → Type 0
 a ≺ b = a .num * b .den < b .num * a .den
-
-abbrev pub _≈_ : Frac → Frac → Type 0
-a ≈ b = a .num * b .den ≡ b .num * a .den
 
 -- how far two lie apart
 unfoldable pub distance : Frac → Frac → Frac

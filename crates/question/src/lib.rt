@@ -30,7 +30,7 @@ pub enum Question {
 }
 
 // A no: the question, and the member's place in the schedule, from 1.
-// The place is 0 for questions 1, 4, 11 and 12, and for 2 and 3 put to the count itself.
+// The place is 0 for questions 1, 4, 11 and 12 of a schedule, and for 2 and 3 put to the count itself; a built member's refusals all have 1.
 pub struct Refusal {
     pub question: Question,
     pub member: u32,

@@ -15,7 +15,7 @@ use lib.Ieee.Scale.{round-same, finite, grid, round-under, round-val}
 use lib.Ieee.Order.{round-mono}
 use lib.Ieee.Positive.{positive, positive-of-value, between, le-trans-positive}
 use borrow.Author.Tests.{ne-eqb, leb-true, leb-false}
-use Rattle.ratio.specs.Ratio.{nought, one, quotient, nearest}
+use Rattle.ratio.specs.Ratio.{nought, one, quotient, nearest, finiteNonneg}
 
 -- ---- The nearest double.
 
@@ -92,12 +92,6 @@ at-most-one a b p k = go (leb a b) refl
 
 -- ---- Finite and not negative.
 
-abbrev pub fair : Float → Bool
-fair nan = false
-fair (inf s) = false
-fair (fin true m e) = false
-fair (fin false m e) = true
-
 nought-is : nearest 0 1 ≡ nought
 unfolding nearest round
 nought-is = refl
@@ -113,17 +107,17 @@ finite-between (inf true) h k = absurd h
 finite-between (inf false) h k = absurd k
 finite-between (fin s m e) h k = tt
 
-fair-value : (x : Float) (a c : ℕ) → HasValue x false a c → T (fair x)
+fair-value : (x : Float) (a c : ℕ) → HasValue x false a c → T (finiteNonneg x)
 fair-value nan a c h = absurd h
 fair-value (inf s) a c h = absurd h
 fair-value (fin true m e) a c h = absurd (true≢false (h .0))
 fair-value (fin false m e) a c h = tt
 
-fair-finite : (a b : ℕ) → T (finite (nearest a b)) → T (fair (nearest a b))
+fair-finite : (a b : ℕ) → T (finite (nearest a b)) → T (finiteNonneg (nearest a b))
 unfolding nearest
 fair-finite a b h = fair-value (round binary64 false a b) (grid binary64 a b) (2 ^ low binary64) (round-val binary64 a b (round-under binary64 a b h))
 
-pub nearest-fair : (a b : ℕ) → a < 2 ^ 53 → 0 < b → T (fair (nearest a b))
+pub nearest-fair : (a b : ℕ) → a < 2 ^ 53 → 0 < b → T (finiteNonneg (nearest a b))
 nearest-fair a b h p =
     fair-finite a b
     (finite-between (nearest a b)

@@ -10,8 +10,8 @@ use Rattle.quantity.proofs.Choice.{if-case}
 use Rattle.outcome.specs.declared.Figure.{Figure}
 use Rattle.outcome.specs.declared.Figure.the-variants.{Reached, Unreached}
 use Rattle.ratio.specs.declared.Ratio.{Ratio}
-use Rattle.ratio.specs.Ratio.{quotient, nearest, noRatio, ratio, overFigure, overLimit, ExactFigure, Decides}
-use Rattle.ratio.proofs.Division.{quotient-nearest, at-most-one, fair, nearest-fair}
+use Rattle.ratio.specs.Ratio.{quotient, nearest, noRatio, ratio, overFigure, overLimit, ExactFigure, Decides, finiteNonneg}
+use Rattle.ratio.proofs.Division.{quotient-nearest, at-most-one, nearest-fair}
 
 -- a figure, where it was reached, is n
 abbrev pub Is : ℕ → Figure → Type 0
@@ -63,7 +63,7 @@ limit-decides Unreached n b e k = λ r. absurd (false≢true r)
 
 -- where it was reached
 abbrev FairRatio : Ratio → Type 0
-FairRatio r = r .reached ≡ true → T (fair (r .value))
+FairRatio r = r .reached ≡ true → T (finiteNonneg (r .value))
 
 pub no-ratio-fair : FairRatio noRatio
 no-ratio-fair e = absurd (false≢true e)

@@ -5,7 +5,7 @@ use mathlib.Core.Path.{_≡_}
 use mathlib.Core.Bool.{Bool, true, false}
 use lib.Dec.{eqb}
 use lib.IntN.{pos}
-use lib.Ieee.{Float, fin, binary64, ofInt, div, round, le}
+use lib.Ieee.{Float, nan, inf, fin, binary64, ofInt, div, round, le}
 use Rattle.quantity.specs.Choice.{if_then_else_}
 use Rattle.outcome.specs.declared.Figure.{Figure}
 use Rattle.outcome.specs.declared.Figure.the-variants.{Reached, Unreached}
@@ -29,6 +29,13 @@ quotient a b = div binary64 (ofInt binary64 (pos a)) (ofInt binary64 (pos b))
 -- "the double nearest to" a/b, "rounded once" (ties to even)
 unfoldable pub nearest : ℕ → ℕ → Float
 nearest a b = round binary64 false a b
+
+-- a double that is finite and not negative
+abbrev pub finiteNonneg : Float → Bool
+finiteNonneg nan = false
+finiteNonneg (inf s) = false
+finiteNonneg (fin true m e) = false
+finiteNonneg (fin false m e) = true
 
 -- ---- One utilization, by either of the two.
 

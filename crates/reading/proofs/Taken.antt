@@ -4,14 +4,12 @@ use mathlib.Core.Path.{_≡_, refl, sym, ap, _∙_}
 use mathlib.Core.Bool.{Bool, true, false, _&&_}
 use mathlib.Core.List.{List, [], _∷_, _++_}
 use native.Mathlib.Omega.{arith}
-use lib.Dec.{ltb}
 use lib.ListN.{length, getD, set, take, drop, length-set}
 use lib.Seq.{getD-set-same, getD-set-other}
 use borrow.Author.Tests.{lt-ltb, le-ltb}
 use Rattle.quantity.specs.Choice.{if_then_else_}
 use Rattle.quantity.proofs.Choice.{if-case, both-true}
 use Rattle.question.specs.declared.Question.{Question}
-use Rattle.question.specs.declared.Question.the-variants.{Field}
 use Rattle.number.specs.declared.Number.{Number}
 use Rattle.number.specs.declared.Number.the-variants.{Value, Refused}
 use Rattle.number.specs.Number.{numberAt}
@@ -24,10 +22,10 @@ use Rattle.field.proofs.Tables.{fields-fit}
 use Rattle.reading.specs.declared.Took.{Took}
 use Rattle.reading.specs.declared.Took.the-variants.{To}
 use Rattle.reading.specs.declared.Took.the-variants as took
-use Rattle.reading.specs.Reading.{Reading, got, no, Placed, placed, andThen, ask, ofNumber}
-use Rattle.reading.specs.Fields.{empty, checked, field, fields}
+use Rattle.reading.specs.Reading.{Reading, got, no, Placed, placed, andThen}
+use Rattle.reading.specs.Fields.{empty, field, fields}
 use Rattle.reading.specs.Taken.{Stopped, stopped, storedBy, stored, run, taken, tookOf}
-use Rattle.reading.proofs.Held.{on-field, countBelow, ordered, asked-same, in-order, fields-held}
+use Rattle.reading.proofs.Held.{on-field, countBelow, ordered, asked-same, in-order}
 
 -- ---- Cases.
 

@@ -9,6 +9,7 @@ use Rattle.line.specs.Line.{lineWords, headWords, lineText}
 use Rattle.line.proofs.Said.{head-said, member-said, said-alone}
 use Rattle.question.specs.declared.Question.{Question}
 use Rattle.question.specs.declared.Refusal.{Refusal}
+use Rattle.question.proofs.Numbers.{numbered}
 use Rattle.outcome.specs.declared.Outcome.{Outcome}
 use Rattle.number.specs.Number.{numberAt}
 use Rattle.member.specs.Member.{Member}
@@ -57,9 +58,9 @@ reported s d d′ a ms e p =
     record {
       answer-is = rw e (p .answer-is);
       buffer-is = rw e (p .buffer-is);
-      claim = λ k n f w.
+      claim = λ k f w.
           let same : ms ≡ k = cc in
-          rw (← same) (rw (text-written 0 (reportText ms) d d′ a n p w) (report-safe ms (schedule-accepted s ms e .0)));
+          rw (← same) (rw (text-written 0 (reportText ms) d d′ a p w) (report-safe ms (schedule-accepted s ms e .0)));
     }
 
 pub refused : (s d : List ℕ) (r : Refusal) → schedule s ≡ reading.no r → Reported s d d (Refused r)
@@ -68,7 +69,7 @@ refused s d r e =
     record {
       answer-is = rw e (refused-is 0 r d .0);
       buffer-is = rw e (refused-is 0 r d .1);
-      claim = λ k n f w. absurd (let z : _≡_ {A = ℕ} 0 1 = cc in omega arith);
+      claim = λ k f w. absurd (numbered (r .question) w);
     }
 
 -- ---- How the survey's answer picks the case.
@@ -118,8 +119,8 @@ module _ (x : Built) where
       record {
         answer-is = rw e (p .answer-is);
         buffer-is = rw e (p .buffer-is);
-        claim = λ n w.
-            rw (text-written 1 (memberText (memberOf x)) d d′ a n p w)
+        claim = λ w.
+            rw (text-written 1 (memberText (memberOf x)) d d′ a p w)
             (line-safe (memberOf x) (lineOf 0 (memberText (memberOf x))) (accepted-built (x .mark) (x .kind) (x .fields .v) e) (said-alone (markOf (memberOf x)) (outcomeOf (memberOf x))));
       }
 
@@ -131,4 +132,4 @@ module _ (x : Built) where
       MemberReported x d d (Refused (refusal q 1))
   unfolding memberReportOf
   member-refused d q e =
-      record { answer-is = rw e (refused-is 1 (refusal q 1) d .0); buffer-is = rw e (refused-is 1 (refusal q 1) d .1); claim = λ n w. absurd (let z : _≡_ {A = ℕ} 0 1 = cc in omega arith) }
+      record { answer-is = rw e (refused-is 1 (refusal q 1) d .0); buffer-is = rw e (refused-is 1 (refusal q 1) d .1); claim = λ w. absurd (numbered q w) }

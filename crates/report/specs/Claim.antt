@@ -11,8 +11,7 @@ use Rattle.reading.specs.Reading.{got}
 use Rattle.schedule.specs.Schedule.{schedule}
 use Rattle.checks.specs.Claim.{SafeLine}
 use Rattle.printed.specs.declared.Answer.{Answer}
-use Rattle.printed.specs.declared.Answer.the-variants.{Written}
-use Rattle.printed.specs.Printed.{answered, bufferAfter}
+use Rattle.printed.specs.Printed.{numbersOf, answered, bufferAfter}
 use Rattle.report.specs.Report.{reportOf, memberReportOf}
 
 -- Of every member of the schedule, in order: its line, read back from the text's bytes, is safe for its fields.
@@ -23,12 +22,12 @@ pub record SafeReport (ms : List Member) (text : List ℕ) : Type 0 where
 
 -- What `report` promises, for all bytes and every buffer: the answer, the whole buffer afterwards, and demand 3 of the text in it.
 pub record Reported (src before after : List ℕ) (answer : Answer) : Type 0 where
-  pub answer-is : answer ≡ answered 0 (reportOf src) (length before)
+  pub answer-is : numbersOf answer ≡ answered 0 (reportOf src) (length before)
   pub buffer-is : after ≡ bufferAfter (reportOf src) before
-  pub claim : (ms : List Member) (n : ℕ) → schedule src ≡ got ms → answer ≡ Written n → SafeReport ms (take n after)
+  pub claim : (ms : List Member) → schedule src ≡ got ms → numbersOf answer .question ≡ 0 → SafeReport ms (take (numbersOf answer .length) after)
 
 -- What `member_report` promises of a built member.
 pub record MemberReported (x : Built) (before after : List ℕ) (answer : Answer) : Type 0 where
-  pub answer-is : answer ≡ answered 1 (memberReportOf x) (length before)
+  pub answer-is : numbersOf answer ≡ answered 1 (memberReportOf x) (length before)
   pub buffer-is : after ≡ bufferAfter (memberReportOf x) before
-  pub claim : (n : ℕ) → answer ≡ Written n → SafeLine (memberOf x) (lineOf 0 (take n after))
+  pub claim : numbersOf answer .question ≡ 0 → SafeLine (memberOf x) (lineOf 0 (take (numbersOf answer .length) after))

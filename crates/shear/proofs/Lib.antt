@@ -1,4 +1,3 @@
 pub mod Bounds
 pub mod Tests
 pub mod Exact
-pub mod Examples

@@ -42,7 +42,7 @@ pub fn shear_capacity(x: Section) -> Force
 }
 
 // Whether the shear is above 0.7·ft·b·h0, the first case of table 5.5.6.
-pub fn shear_above(x: Section) -> bool
+fn shear_above(x: Section) -> bool
     requires { ⌜ Bounded x ⌝ }
     ensures { λ r. ⌜ r ≡ shearAbove x ⌝ }
 {

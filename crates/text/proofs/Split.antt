@@ -66,11 +66,6 @@ pub read-word : (k : ℕ) {ws : List (List ℕ)} → All (All Graphic) ws → wo
 unfolding wordOf
 read-word k a = joined-piece 32 k (words-free 32 (omega arith) a)
 
--- the lines of a text; after the last newline there is an empty piece
-pub read-lines : {ls : List (List (List ℕ))} → All (All (All Graphic)) ls → split 10 (textOf ls) ≡ map (joinedBy 32) ls ++ ([] ∷ [])
-unfolding textOf
-read-lines a = split-ended 10 (lines-free a)
-
 -- the i-th line of a text
 pub read-line : (i : ℕ) {ls : List (List (List ℕ))} → All (All (All Graphic)) ls → lineOf i (textOf ls) ≡ joinedBy 32 (getD ls i [])
 unfolding lineOf textOf joinedBy

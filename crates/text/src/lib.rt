@@ -1,5 +1,5 @@
 // Text put into a lent buffer: bytes and fixed words. A byte past the buffer's end is counted and not stored, so a first pass over
-// an empty buffer learns a text's length.
+// a buffer of one byte learns a text's length.
 ghost use mathlib.Core.Path.{_≡_};
 ghost use mathlib.Core.List.{_∷_, []};
 ghost use Prim.Native.Nat.{min};

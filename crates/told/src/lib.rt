@@ -1,10 +1,14 @@
 // Answers as records of numbers, for callers in C and Rust: the question that was answered no, or 0.
 ghost use mathlib.Core.Path.{_≡_};
+ghost use Rattle.printed.specs.Printed.{numbersOf};
+ghost use Rattle.governing.specs.Governing.{valueOf};
+ghost use Rattle.utilization.specs.Utilized.{valuesOf, valuesGiven, valuesRefused};
 ghost use Rattle.told.specs.Told.{told};
-ghost use Rattle.told.specs.Utilization.{withGoverning, refusedUtilization, utilizationTold};
+ghost use Rattle.told.specs.Utilization.{withGoverning, utilizationTold};
 use governing::Governing;
 use governing::governing_of;
 use printed::Answer;
+use question::Refusal;
 use question::number_of;
 use ratio::Utilization;
 
@@ -19,7 +23,7 @@ pub struct Told {
 
 // The answer of a report.
 pub fn tell(a: Answer) -> Told
-    ensures { λ r. ⌜ r ≡ told a ⌝ }
+    ensures { λ r. ⌜ r ≡ told (numbersOf a) ⌝ }
 {
     match a {
         Answer::Written(n) => Told {
@@ -50,7 +54,7 @@ pub struct UtilizationTold {
 }
 
 fn with_governing(u: Utilization, g: Governing) -> UtilizationTold
-    ensures { λ r. ⌜ r ≡ withGoverning u g ⌝ }
+    ensures { λ r. ⌜ r ≡ withGoverning (valuesGiven u) (valueOf g) ⌝ }
 {
     match g {
         Governing::Largest(x) => UtilizationTold {
@@ -70,8 +74,8 @@ fn with_governing(u: Utilization, g: Governing) -> UtilizationTold
     }
 }
 
-fn refused_utilization(question: u32, member: u32) -> UtilizationTold
-    ensures { λ r. ⌜ r ≡ refusedUtilization question member ⌝ }
+fn refused_utilization(refusal: Refusal) -> UtilizationTold
+    ensures { λ r. ⌜ r ≡ utilizationTold (valuesRefused refusal) ⌝ }
 {
     let utilization = Utilization {
         first: 0.0,
@@ -83,9 +87,10 @@ fn refused_utilization(question: u32, member: u32) -> UtilizationTold
         thirdReached: false,
         fourthReached: false,
     };
+    let q = refusal.question;
     UtilizationTold {
-        question,
-        member,
+        question: number_of(q),
+        member: refusal.member,
         utilization,
         governs: false,
         governing: 0.0,
@@ -94,13 +99,10 @@ fn refused_utilization(question: u32, member: u32) -> UtilizationTold
 
 // The answer of a member's utilization.
 pub fn tell_utilization(a: utilization::Answer) -> UtilizationTold
-    ensures { λ r. ⌜ r ≡ utilizationTold a ⌝ }
+    ensures { λ r. ⌜ r ≡ utilizationTold (valuesOf a) ⌝ }
 {
     match a {
         utilization::Answer::Given(u) => with_governing(u, governing_of(u)),
-        utilization::Answer::Refused(r) => {
-            let q = r.question;
-            refused_utilization(number_of(q), r.member)
-        }
+        utilization::Answer::Refused(r) => refused_utilization(r),
     }
 }

@@ -1,3 +1,2 @@
 pub mod Figures
 pub mod Utilized
-pub mod Examples

@@ -13,6 +13,7 @@ use Rattle.quantity.proofs.Rounding.{le-down, down-le, down-below}
 use Rattle.material.specs.Concrete.{concreteOf}
 use Rattle.material.specs.Steel.{steelOf}
 use Rattle.question.specs.declared.Question.{Question}
+use Rattle.question.proofs.Numbers.{numbered}
 use Rattle.outcome.specs.declared.Outcome.{Outcome}
 use Rattle.member.specs.Member.{Member, beam, column, mesh, Beam, Column, Mesh}
 use Rattle.member.specs.Accepted.{AcceptedMember, AcceptedBeam, AcceptedColumn, AcceptedMesh}
@@ -36,9 +37,8 @@ use Rattle.utilization.specs.declared.Answer.{Answer}
 use Rattle.utilization.specs.declared.Answer.the-variants as answers
 use Rattle.ratio.specs.Ratio.{quotient, nearest, ExactFigures}
 use Rattle.utilization.specs.Utilization.{deflectionLimit, beamUtilization, columnUtilization, meshUtilization, utilizationOf}
-use Rattle.governing.specs.Governing.{ratiosOf}
+use Rattle.governing.specs.Governing.{ratiosOf, FiniteNonneg}
 use Rattle.utilization.specs.Utilized.{answerOf, DecidesMember, Utilized}
-use Rattle.governing.proofs.Largest.{Fair}
 use Rattle.utilization.proofs.Figures.{exact-figures, beam-figures, axial-figure, mesh-figures}
 use Rattle.ratio.proofs.Nearest.{figure-nearest, limit-nearest, figure-decides, limit-decides, no-ratio-fair, figure-fair, limit-fair}
 
@@ -125,9 +125,9 @@ member-decides (mesh mark x) a =
       lap = limit-decides _ _ _ (f .lap) (omega (arith, a .1 .lap));
     }
 
--- ---- Those of an accepted member are finite and not negative, so that the largest of them governs (`Largest`).
+-- ---- Those of an accepted member are finite and not negative.
 
-nearest-member-fair : (m : Member) → AcceptedMember m → Fair (ratiosOf (utilizationOf nearest m (outcomeOf m)))
+nearest-member-fair : (m : Member) → AcceptedMember m → FiniteNonneg (ratiosOf (utilizationOf nearest m (outcomeOf m)))
 unfolding beamUtilization columnUtilization meshUtilization
 nearest-member-fair (beam mark x) a =
     let s = sectionOf x in
@@ -142,7 +142,7 @@ nearest-member-fair (mesh mark x) a =
     let e = member-exact (mesh mark x) a in
     (limit-fair _ (x .anchorage) (e .first), (limit-fair _ (x .lap) (e .second), (no-ratio-fair, (no-ratio-fair, tt))))
 
-pub member-fair : (m : Member) → AcceptedMember m → Fair (ratiosOf (utilizationOf quotient m (outcomeOf m)))
+member-fair : (m : Member) → AcceptedMember m → FiniteNonneg (ratiosOf (utilizationOf quotient m (outcomeOf m)))
 member-fair m a = rw (member-nearest m a) (nearest-member-fair m a)
 
 -- ---- By kind.
@@ -178,21 +178,20 @@ module _ (x : Built) {answer : Answer} where
   unfolding answerOf
   given p e =
       let a = accepted-built _ _ _ p in
-      let same : (u : Utilization) → answer ≡ answers.Given u → u ≡ utilizationOf nearest (memberOf x) (outcomeOf (memberOf x)) =
-      λ u q. cc (member-nearest (memberOf x) a) in
       record {
-        answer-is = rw p e;
-        nearest-is = same;
-        decides = λ u q. rw (same u q) (member-decides (memberOf x) a);
+        answer-is = rw (p, e);
+        nearest-is = λ z. rw e (member-nearest (memberOf x) a);
+        finite = λ z. rw e (member-fair (memberOf x) a);
+        decides = λ z. rw (e, member-nearest (memberOf x) a) (member-decides (memberOf x) a);
       }
 
   pub refused : (q : Question) → builtVerdict (x .mark) (x .kind) (x .fields .v) ≡ Refused q →
       answer ≡ answers.Refused (record { question = q; member = 1 }) → Utilized x answer
   unfolding answerOf
   refused q p e =
-      let other : (u : Utilization) → answer ≡ answers.Given u → ⊥ = λ u r. let z : _≡_ {A = ℕ} 0 1 = cc in omega arith in
       record {
-        answer-is = rw p e;
-        nearest-is = λ u r. absurd (other u r);
-        decides = λ u r. absurd (other u r);
+        answer-is = rw (p, e);
+        nearest-is = λ z. absurd (numbered q (rw e at z));
+        finite = λ z. absurd (numbered q (rw e at z));
+        decides = λ z. absurd (numbered q (rw e at z));
       }

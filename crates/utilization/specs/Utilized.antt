@@ -1,6 +1,9 @@
 -- The utilization of a built member, and the whole promise of `utilization_of`.
+use Prim.Native.Nat.{ℕ}
 use mathlib.Core.Path.{_≡_}
 use lib.Dec.{leb}
+use Rattle.question.specs.declared.Refusal.{Refusal}
+use Rattle.question.specs.Question.{numberOf}
 use Rattle.material.specs.Concrete.{concreteOf}
 use Rattle.material.specs.Steel.{steelOf}
 use Rattle.member.specs.Member.{Member, beam, column, mesh, Column, Mesh}
@@ -20,17 +23,34 @@ use Rattle.built.specs.Built.{memberOf}
 use Rattle.built.specs.Verdict.{builtVerdict}
 use Rattle.checks.specs.Outcome.{outcomeOf}
 use Rattle.ratio.specs.declared.Utilization.{Utilization}
+use Rattle.governing.specs.Governing.{ratiosOf, FiniteNonneg}
 use Rattle.utilization.specs.declared.Answer.{Answer}
 use Rattle.utilization.specs.declared.Answer.the-variants.{Given, Refused}
-use Rattle.ratio.specs.Ratio.{quotient, nearest, Decides}
+use Rattle.ratio.specs.Ratio.{quotient, nearest, noRatio, four, Decides}
 use Rattle.utilization.specs.Utilization.{utilizationOf}
 
--- the questions of a single built member; every refusal names member 1
-abbrev pub answerBy : Verdict → Member → Answer
-answerBy verdicts.Accepted m = Given (utilizationOf quotient m (outcomeOf m))
-answerBy (verdicts.Refused q) m = Refused (record { question = q; member = 1 })
+-- What an answer says: the number of the question answered no and its member, 0 and 0 where none was; and the four utilizations, none of them reached in a refusal.
+pub record Values : Type 0 where
+  pub question : ℕ
+  pub member : ℕ
+  pub utilization : Utilization
 
-unfoldable pub answerOf : Built → Answer
+abbrev pub valuesGiven : Utilization → Values
+valuesGiven u = record { question = 0; member = 0; utilization = u }
+
+abbrev pub valuesRefused : Refusal → Values
+valuesRefused r = record { question = numberOf (r .question); member = r .member; utilization = four noRatio noRatio noRatio noRatio }
+
+abbrev pub valuesOf : Answer → Values
+valuesOf (Given u) = valuesGiven u
+valuesOf (Refused r) = valuesRefused r
+
+-- the questions of a single built member; every refusal names member 1
+abbrev pub answerBy : Verdict → Member → Values
+answerBy verdicts.Accepted m = valuesGiven (utilizationOf quotient m (outcomeOf m))
+answerBy (verdicts.Refused q) m = valuesRefused (record { question = q; member = 1 })
+
+unfoldable pub answerOf : Built → Values
 answerOf x = answerBy (builtVerdict (x .mark) (x .kind) (x .fields .v)) (memberOf x)
 
 pub record DecidesBeam (x : Section) (u : Utilization) : Type 0 where
@@ -51,8 +71,9 @@ DecidesMember (beam mark x) u = DecidesBeam (sectionOf x) u
 DecidesMember (column mark x) u = DecidesColumn x u
 DecidesMember (mesh mark x) u = DecidesMesh x u
 
--- What `utilization_of` promises: the answer; that each utilization is the double nearest to its fraction; and that it decides its check.
+-- What `utilization_of` promises: the answer; that each utilization is the double nearest to its fraction, finite and not negative; and that it decides its check.
 pub record Utilized (x : Built) (answer : Answer) : Type 0 where
-  pub answer-is : answer ≡ answerOf x
-  pub nearest-is : (u : Utilization) → answer ≡ Given u → u ≡ utilizationOf nearest (memberOf x) (outcomeOf (memberOf x))
-  pub decides : (u : Utilization) → answer ≡ Given u → DecidesMember (memberOf x) u
+  pub answer-is : valuesOf answer ≡ answerOf x
+  pub nearest-is : valuesOf answer .question ≡ 0 → valuesOf answer .utilization ≡ utilizationOf nearest (memberOf x) (outcomeOf (memberOf x))
+  pub finite : valuesOf answer .question ≡ 0 → FiniteNonneg (ratiosOf (valuesOf answer .utilization))
+  pub decides : valuesOf answer .question ≡ 0 → DecidesMember (memberOf x) (valuesOf answer .utilization)

@@ -3,8 +3,10 @@
 use std::hint::black_box;
 
 use koxaltes_tests::comparison::{Checker, Comparison, Library, Model};
+use koxaltes_tests::guard::List;
 use koxaltes_tests::make::{self, encode, Random, Record};
 use koxaltes_tests::measure::{interleaved, stack_use, Rounds, Timing, LONG, SHORT};
+use koxaltes_tests::model::built::Built;
 
 const ROOM: usize = 64_000;
 
@@ -101,20 +103,25 @@ struct Members {
     records: Vec<Record>,
 }
 
+/// A record as an entry takes it.
+fn lent(record: &Record) -> (Built, List<'_>, List<'_>) {
+    (record.built(), record.first.as_slice().into(), record.second.as_slice().into())
+}
+
 fn time_built(members: &Members) {
     let (mut left, mut right) = ([0; 200], [0; 200]);
-    let built: Vec<_> = members.records.iter().map(|record| (record, record.built())).collect();
+    let built: Vec<_> = members.records.iter().map(lent).collect();
     let lines = |checker: &dyn Checker, out: &mut [u8]| {
-        for (record, built) in black_box(&built) {
-            let _ = black_box(checker.member_report(built, &record.first, &record.second, out));
+        for (built, first, second) in black_box(&built) {
+            let _ = black_box(checker.member_report(built, *first, *second, out));
         }
     };
     let mut library = || lines(&Library, &mut left);
     let timing = interleaved(&SHORT, &mut library, &mut || lines(&Model, &mut right));
     print_row(&format!("{}, line", members.name), built.len(), &timing);
     let utilizations = |checker: &dyn Checker| {
-        for (record, built) in black_box(&built) {
-            black_box(checker.member_utilization(built, &record.first, &record.second));
+        for (built, first, second) in black_box(&built) {
+            black_box(checker.member_utilization(built, *first, *second));
         }
     };
     let mut library = || utilizations(&Library);
@@ -135,8 +142,7 @@ fn print_stack(inputs: &[Input], members: &[Members]) {
         println!("{:44} {:12} {:12}", input.name, of(&Library), of(&Model));
     }
     for Members { name, records } in members {
-        let record = &records[0];
-        let (built, first, second) = (record.built(), &record.first, &record.second);
+        let (built, first, second) = lent(&records[0]);
         let mut of = |checker: &dyn Checker| {
             stack_use(&mut || {
                 let _ = black_box(checker.member_report(&built, first, second, &mut out));

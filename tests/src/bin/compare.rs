@@ -24,6 +24,7 @@ fn print_table<C: Checker>(comparison: &Comparison<C>) {
     print_answers("schedule reports", &comparison.schedule_answers);
     print_answers("built member reports", &comparison.built_answers);
     print_answers("built member utilizations", &comparison.utilization_answers);
+    print_answers("totals of lists", &comparison.totals_answers);
     println!("members of accepted schedules: {}", comparison.members);
     println!("calls: {}", comparison.calls);
     println!("cases reached by them:");
@@ -40,6 +41,7 @@ fn gaps<C: Checker>(comparison: &Comparison<C>) -> Vec<String> {
         ("schedules", &comparison.schedule_answers, (0..=12).collect::<Vec<usize>>()),
         ("built members", &comparison.built_answers, vec![0, 5, 6, 7, 8, 9, 10, 12]),
         ("utilizations", &comparison.utilization_answers, vec![0, 5, 6, 7, 8, 9, 10]),
+        ("lists", &comparison.totals_answers, vec![0, 7]),
     ];
     for (name, answers, questions) in lists {
         let few = questions.into_iter().filter(|&question| answers[question] < 20);
@@ -67,8 +69,8 @@ fn main() -> ExitCode {
     }
     println!("{} cases required, all reached; {:.1?}", required().len(), start.elapsed());
     println!(
-        "compared {} schedules and {} built members: all equal",
-        comparison.schedules, comparison.built
+        "compared {} schedules, {} built members and {} lists: all equal",
+        comparison.schedules, comparison.built, comparison.lists
     );
     ExitCode::SUCCESS
 }

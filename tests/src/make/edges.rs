@@ -86,13 +86,18 @@ pub fn field_edges(record: &Record) -> Vec<Record> {
     records
 }
 
-/// A record with every diameter and bar count tried in each of its groups.
-pub fn group_edges(record: &Record) -> Vec<Record> {
-    let mut records = Vec::new();
+/// Groups of every diameter and bar count tried.
+pub fn tried_groups() -> Vec<Group> {
     let mut tried: Vec<Group> =
         (0..=52).chain([HUGE]).map(|diameter| Group { diameter, bars: 1 }).collect();
     tried.extend([0, 1, 20, 21, HUGE].map(|bars| Group { diameter: 12, bars }));
-    for group in tried {
+    tried
+}
+
+/// A record with every diameter and bar count tried in each of its groups.
+pub fn group_edges(record: &Record) -> Vec<Record> {
+    let mut records = Vec::new();
+    for group in tried_groups() {
         for place in 0..record.first.len() {
             let mut changed = record.clone();
             changed.first[place] = group;

@@ -117,6 +117,17 @@ impl Record {
         }
     }
 
+    /// How many groups of each list are the member's: as its counts say, none where its kind has no
+    /// such list.
+    pub fn counts(&self) -> [usize; 2] {
+        let count = |field: usize| self.fields[field] as usize;
+        match self.kind {
+            1 => [count(place::beam::TENSION), count(place::beam::COMPRESSION)],
+            2 => [count(place::column::GROUPS), 0],
+            _ => [0, 0],
+        }
+    }
+
     /// How many fields the kind has.
     pub fn field_count(&self) -> usize {
         match self.kind {

@@ -45,21 +45,32 @@ impl Numbers for Lent<'_> {
         let count = self.within(least, MOST_GROUPS)? as usize;
         let list = self.lists[self.lists_taken];
         self.lists_taken += 1;
-        let mut bars = Bars::default();
-        for group in list.get(..count).ok_or(7u32)? {
-            let (diameter, count) = (u64::from(group.diameter), u64::from(group.bars));
-            let area = Bars::area_of(diameter)?;
-            if !(1..=MOST_BARS).contains(&count) {
-                return Err(7);
-            }
-            bars.add(diameter, area, count);
-        }
-        Ok(bars)
+        named(list, count)
     }
+}
+
+/// The first `count` groups of a lent list (7).
+fn named(list: &[Group], count: usize) -> Result<Bars, No> {
+    let mut bars = Bars::default();
+    for group in list.get(..count).ok_or(7u32)? {
+        let (diameter, count) = (u64::from(group.diameter), u64::from(group.bars));
+        let area = Bars::area_of(diameter)?;
+        if !(1..=MOST_BARS).contains(&count) {
+            return Err(7);
+        }
+        bars.add(diameter, area, count);
+    }
+    Ok(bars)
 }
 
 /// Puts questions 5 (range only) to 10; every refusal names member 1.
 pub fn read(built: &Built, first: &[Group], second: &[Group]) -> Result<Member, Refusal> {
     let mut lent = Lent { built, taken: 0, lists: [first, second], lists_taken: 0 };
     Member::read(&mut lent, 0).map_err(|question| Refusal { question, member: 1 })
+}
+
+/// The totals of the first `count` groups of a lent list, at most four; a refusal names member 1.
+pub fn totals(list: &[Group], count: usize) -> Result<Bars, Refusal> {
+    let bars = if count as u64 > MOST_GROUPS { Err(7) } else { named(list, count) };
+    bars.map_err(|question| Refusal { question, member: 1 })
 }

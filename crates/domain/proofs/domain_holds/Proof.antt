@@ -46,14 +46,14 @@ is-link-steel-requires c κs = search needs
 enum-told-4 : tie.Need-enum-told-4
 enum-told-4 c = search needs
 
-is-bar-requires-2 : tie.Need-is-bar-requires-2
-is-bar-requires-2 c κs = search needs
+is-group-diameter-requires : tie.Need-is-group-diameter-requires
+is-group-diameter-requires c κs = search needs
 
 enum-told-5 : tie.Need-enum-told-5
 enum-told-5 c = search needs
 
-is-between-requires-3 : tie.Need-is-between-requires-3
-is-between-requires-3 c κs = search needs
+is-group-bars-requires : tie.Need-is-group-bars-requires
+is-group-bars-requires c κs = search needs
 
 returns : tie.Need-returns
 unfolding holds
@@ -81,11 +81,11 @@ returns-6 c = rw (c .before .enum-told3 .given .1) (c .is-link-steel .ensures)
 
 returns-7 : tie.Need-returns-7
 unfolding holds
-returns-7 c = rw (c .before .enum-told4 .given .1) (c .is-bar2 .ensures)
+returns-7 c = rw (c .before .enum-told4 .given .1) (c .is-group-diameter .ensures)
 
 returns-8 : tie.Need-returns-8
 unfolding holds
-returns-8 c = rw (c .before .enum-told5 .given .1) (c .is-between3 .ensures)
+returns-8 c = rw (c .before .enum-told5 .given .1) (c .is-group-bars .ensures)
 
 pub domain-holds-spec : {M : Type 1} → statement M
 domain-holds-spec =
@@ -105,9 +105,9 @@ domain-holds-spec =
     enum-told-3
     is-link-steel-requires
     enum-told-4
-    is-bar-requires-2
+    is-group-diameter-requires
     enum-told-5
-    is-between-requires-3
+    is-group-bars-requires
     returns
     returns-2
     returns-3

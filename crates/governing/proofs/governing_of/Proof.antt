@@ -1,4 +1,5 @@
 -- `governing::governing_of` meets its contract.
+use Rattle.governing.proofs.Largest.{governs}
 use borrow.Author.Needs.{needs}
 use Rattle.governing.proofs.governing_of.Statement.{statement}
 use Rattle.governing.proofs.governing_of.Tie as tie
@@ -18,7 +19,7 @@ include-requires-4 c κs = search needs
 returns : tie.Need-returns
 returns c =
     let s = c .before in
-    rw (c .include4 .ensures, s .include3 .ensures, s .before .include2 .ensures, s .before .before .include .ensures)
+    governs (s .before .before .before .args .u) (rw (c .include4 .ensures, s .include3 .ensures, s .before .include2 .ensures, s .before .before .include .ensures))
 
 pub governing-of-spec : {M : Type 1} → statement M
 governing-of-spec =

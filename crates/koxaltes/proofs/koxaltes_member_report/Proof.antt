@@ -1,4 +1,4 @@
--- `koxaltes_member_report`: a walk of its code, by hand, since it has slices of structs. `first_four` copies each list out, and `tell_member` is called on the copies.
+-- `koxaltes_member_report`: a walk of its code, by hand, since it has slices of structs. `first_groups` copies out of each list what its count names, and `tell_member` is called on the copies.
 -- The buffer goes to it at its own lifetime, share and name: it is given up for good, and what is said of its last bytes is said of the buffer.
 use mathlib.Core.Path.{_≡_, refl}
 use Prim.Native.Nat.{ℕ}
@@ -42,13 +42,20 @@ use Rattle.bars.proofs.Group as G
 use Rattle.bars.proofs.Group.Laws as G′
 use Rattle.built.specs.Built.{memberOf}
 use Rattle.report.specs.Report.{memberReportOf}
-use Rattle.lists.specs.Lists.{four}
-use Rattle.lists.proofs.Copies.{Four, Copied, to-copied, goes-copied, copies, copied-said}
-use Rattle.lists.proofs.first_four.Symbol as copied-def
-use Rattle.lists.proofs.first_four.Symbol.{name as #lists·first-four}
-use Rattle.lists.proofs.first_four.Met as copied-thm
+use Rattle.lists.proofs.Copies.{Four, Copied, copies}
+use Rattle.lists.proofs.first_groups.Symbol as copied-def
+use Rattle.lists.proofs.first_groups.Symbol.{name as #lists·first-groups}
+use Rattle.lists.proofs.first_groups.Met as copied-thm
 use Rattle.lent.specs.declared.Lent.{Lent}
-use Rattle.lent.specs.Lent.{builtOf, lentMember}
+use Rattle.lent.specs.Lent.{lentMember, firstCount, secondCount}
+use Rattle.lent.specs.Slots.{builtOf}
+use Rattle.lent.proofs.Calls.{FirstCount, SecondCount, counts-first, counts-second}
+use Rattle.lent.proofs.first_count.Symbol as first-def
+use Rattle.lent.proofs.first_count.Symbol.{name as #lent·first-count}
+use Rattle.lent.proofs.first_count.Met as first-thm
+use Rattle.lent.proofs.second_count.Symbol as second-def
+use Rattle.lent.proofs.second_count.Symbol.{name as #lent·second-count}
+use Rattle.lent.proofs.second_count.Met as second-thm
 use Rattle.lent.proofs.Lent as L
 use Rattle.lent.proofs.Lent.Laws as L′
 use Rattle.told.specs.declared.Told.{Told}
@@ -100,6 +107,13 @@ module _ {M : Type 1} (𝓤 : URA M) (H : Heap 𝓤) (A : Atoms 𝓤) (W : Given
   abbrev v₃ : Val
   v₃ = sliceVal (b, o) (length ys)
 
+  -- how many groups the counts name
+  abbrev n₁ : ℕ
+  n₁ = firstCount (x .kind) (x .fields .v)
+
+  abbrev n₂ : ℕ
+  n₂ = secondCount (x .kind) (x .fields .v)
+
   abbrev κs : Lfts 3
   κs = (κ₁, (κ₂, (κ₃, tt)))
 
@@ -146,64 +160,63 @@ module _ {M : Type 1} (𝓤 : URA M) (H : Heap 𝓤) (A : Atoms 𝓤) (W : Given
       nothing ! $ move ! (2 ∷ 0 ∷ []) $ fjoin ! $ move ! (2 ∷ 0 ∷ []) $ fjoin ! $ move ! (2 ∷ 0 ∷ []) $ fjoin ! $
       owned ! L.the-row (Is L.the-row) (LL.makes L.the-type L′.the-plain 𝓤 H A) x (v ∷ []) x-is $ fjoin ! $ frame ! $ done !
 
-  module _ (C : Calls 𝓤 H) (Λ : Loops 𝓤 H) (fm : FmC 𝓤 H (W .laws) C) (known-copied : Triple 𝓤 (C #lists·first-four) (Copied 𝓤 H A W mem run)) (known-inner : Triple 𝓤 (C #koxaltes·tell-member) (Inner 𝓤 H A mem run)) where
+  module _ (C : Calls 𝓤 H) (Λ : Loops 𝓤 H) (fm : FmC 𝓤 H (W .laws) C) (known-first : Triple 𝓤 (C #lent·first-count) (FirstCount 𝓤 H A W mem run)) (known-second : Triple 𝓤 (C #lent·second-count) (SecondCount 𝓤 H A W mem run))
+      (known-copied : Triple 𝓤 (C #lists·first-groups) (Copied 𝓤 H A W mem run)) (known-inner : Triple 𝓤 (C #koxaltes·tell-member) (Inner 𝓤 H A mem run)) where
     walk : Is (ShrSlice (named 0) κ₁ G.the-row) s₁ (v₁ ∷ []) → Is (ShrSlice (named 1) κ₂ G.the-row) s₂ (v₂ ∷ []) → Room u8 (length ys)
         → ent 𝓤 (onEntry 𝓤 H A self.signature κs qs (x, (s₁, (s₂, (buffer, tt)))) at) (WpFn 𝓤 H C Λ code.function (v ∷ v₁ ∷ v₂ ∷ v₃ ∷ []) Post)
     walk p₁ p₂ room =
         qed W ((‵ (flft κ₁ q₁) ⊛ ‵ (flft κ₂ q₂) ⊛ ‵ (flft κ₃ q₃) ⊛ ‵ ftrue) ∷ ‵ (owns (L.the-row ∷ ShrSlice (named 0) κ₁ G.the-row ∷ ShrSlice (named 1) κ₂ G.the-row ∷ MutSlice (named 2) κ₃ u8 ∷ []) (x, (s₁, (s₂, (buffer, tt)))) at) ∷ []) ∵
         enter ! C Λ code.function (v ∷ v₁ ∷ v₂ ∷ v₃ ∷ []) _ $
-        alloc1 ! (λ l₀. alloc1 ! (λ l₁. alloc1 ! (λ l₂. alloc1 ! (λ l₃. alloc1 ! (λ l₄. alloc1 ! (λ l₅. alloc1 ! (λ l₆. alloc1 ! (λ l₇. alloc1 ! (λ l₈. alloc0 ! $ params1 ! $
-        pass1 ! (init ! 14 refl (LL.lawful L.the-type L′.the-laws 𝓤 H A W .typed x (v ∷ []) x-is .0)) $
-        pass1 ! (init ! 12 refl (shr-slice-lawful 𝓤 H A W (named 0) κ₁ G.the-row .typed s₁ (v₁ ∷ []) p₁ .0)) $
-        pass1 ! (init ! 10 refl (shr-slice-lawful 𝓤 H A W (named 1) κ₂ G.the-row .typed s₂ (v₂ ∷ []) p₂ .0)) $
-        pass1 ! (init ! 8 refl (tt, (tt, (record { fits = room .0 }, tt)))) $ pass0 ! $
-        -- [_8; …; _0; …; the tokens; what the parameters own]
-        move ! (19 ∷ []) $ fsplit ! $ drop ! $ fsplit ! $ move ! (1 ∷ []) $ fsplit ! $ move ! (1 ∷ []) $ fsplit ! $
-        move ! (22 ∷ []) $ split ! $ move ! (1 ∷ []) $ split ! $ move ! (1 ∷ []) $ split ! $
+        alloc1 ! (λ l₀. alloc1 ! (λ l₁. alloc1 ! (λ l₂. alloc1 ! (λ l₃. alloc1 ! (λ l₄. alloc1 ! (λ l₅. alloc1 ! (λ l₆. alloc1 ! (λ l₇. alloc1 ! (λ l₈. alloc1 ! (λ l₉. alloc1 ! (λ l₁₀. alloc0 ! $ params1 ! $
+        pass1 ! (init ! 18 refl (LL.lawful L.the-type L′.the-laws 𝓤 H A W .typed x (v ∷ []) x-is .0)) $
+        pass1 ! (init ! 16 refl (shr-slice-lawful 𝓤 H A W (named 0) κ₁ G.the-row .typed s₁ (v₁ ∷ []) p₁ .0)) $
+        pass1 ! (init ! 14 refl (shr-slice-lawful 𝓤 H A W (named 1) κ₂ G.the-row .typed s₂ (v₂ ∷ []) p₂ .0)) $
+        pass1 ! (init ! 12 refl (tt, (tt, (record { fits = room .0 }, tt)))) $ pass0 ! $
+        -- [_10; …; _0; …; the tokens; what the parameters own]
+        move ! (23 ∷ []) $ fsplit ! $ drop ! $ fsplit ! $ move ! (1 ∷ []) $ fsplit ! $ move ! (1 ∷ []) $ fsplit ! $
+        move ! (26 ∷ []) $ split ! $ move ! (1 ∷ []) $ split ! $ move ! (1 ∷ []) $ split ! $
         move ! (1 ∷ 5 ∷ 3 ∷ 7 ∷ 2 ∷ 6 ∷ 0 ∷ 4 ∷ []) $ drop ! $ drop ! $
-        -- [token 1; what s₁ owns; token 2; what s₂ owns; token 3; the buffer's; _8; …; _0; …]
-        use2 W (raw (Copied 𝓤 H A W mem run .pre (to-copied 𝓤 H A W mem run κ₁ q₁ s₁)) ⊛ ‵ Own₁) (goes-copied 𝓤 H A W mem run κ₁ q₁ s₁) $ split ! $
-        calls-at ! fm (Copied 𝓤 H A W mem run) known-copied (to-copied 𝓤 H A W mem run κ₁ q₁ s₁) (and-then ! (load ! (from ! (stop !)) (look ! 18 refl)) (no-more !)) (λ u₁.
-        use1 W (copies 𝓤 H A W mem run κ₁ q₁ s₁ u₁) (id⊢ 𝓤 _) $ await ! tt $ pick ! (λ rs₁.
-        split ! $ move ! (1 ∷ []) $ use1 W (raw (fact 𝓤 (rs₁ ≡ four (now s₁)))) (copied-said 𝓤 H A W mem run κ₁ q₁ s₁ rs₁) $ heard ! (rs₁ ≡ four (now s₁)) (λ e₁. split ! $ move ! (1 ∷ []) $
-        peeks ! Four (Is Four) (shows 𝓤 H A Four) rs₁ (u₁ ∷ []) (λ is₁. land ! (from ! (stop !)) (init ! 13 refl (array-lawful 𝓤 H A W G.the-row (LL.lawful G.the-type G′.the-laws 𝓤 H A W) 4 .typed rs₁ _ is₁ .0)) $ drop ! $
+        -- [token 1; what s₁ owns; token 2; what s₂ owns; token 3; the buffer's; _10; …; _0; …]
+        counts-first 𝓤 H A W mem run x v x-is ! fm known-first (and-then ! (load ! (from ! (stop !)) (look ! 25 refl)) (no-more !)) (λ fits₁. land ! (from ! (stop !)) (init ! 14 refl (tt, record { fits = fits₁ })) $
+        copies 𝓤 H A W mem run κ₁ q₁ s₁ n₁ ! fm known-copied fits₁ (and-then ! (load ! (from ! (stop !)) (look ! 22 refl)) (and-then ! (load ! (from ! (stop !)) (look ! 14 refl)) (no-more !))) (λ u₁ rs₁ e₁ is₁.
+        land ! (from ! (stop !)) (init ! 16 refl (array-lawful 𝓤 H A W G.the-row (LL.lawful G.the-type G′.the-laws 𝓤 H A W) 4 .typed rs₁ _ is₁ .0)) $
+        counts-second 𝓤 H A W mem run x v x-is ! fm known-second (and-then ! (load ! (from ! (stop !)) (look ! 25 refl)) (no-more !)) (λ fits₂. land ! (from ! (stop !)) (init ! 10 refl (tt, record { fits = fits₂ })) $
         move ! (2 ∷ 3 ∷ []) $
-        use2 W (raw (Copied 𝓤 H A W mem run .pre (to-copied 𝓤 H A W mem run κ₂ q₂ s₂)) ⊛ ‵ Own₂) (goes-copied 𝓤 H A W mem run κ₂ q₂ s₂) $ split ! $
-        calls-at ! fm (Copied 𝓤 H A W mem run) known-copied (to-copied 𝓤 H A W mem run κ₂ q₂ s₂) (and-then ! (load ! (from ! (stop !)) (look ! 16 refl)) (no-more !)) (λ u₂.
-        use1 W (copies 𝓤 H A W mem run κ₂ q₂ s₂ u₂) (id⊢ 𝓤 _) $ await ! tt $ pick ! (λ rs₂.
-        split ! $ move ! (1 ∷ []) $ use1 W (raw (fact 𝓤 (rs₂ ≡ four (now s₂)))) (copied-said 𝓤 H A W mem run κ₂ q₂ s₂ rs₂) $ heard ! (rs₂ ≡ four (now s₂)) (λ e₂. split ! $ move ! (1 ∷ []) $
-        peeks ! Four (Is Four) (shows 𝓤 H A Four) rs₂ (u₂ ∷ []) (λ is₂. land ! (from ! (stop !)) (init ! 11 refl (array-lawful 𝓤 H A W G.the-row (LL.lawful G.the-type G′.the-laws 𝓤 H A W) 4 .typed rs₂ _ is₂ .0)) $ drop ! $
-        -- [token 2; what s₂ owns; token 1; what s₁ owns; token 3; the buffer's; _8; …; _0; …]: _7 and _8 are the buffer lent on
-        assigns ! (addr ! (from ! (fld ! refl (hop ! (look-in ! 14 (sub ! 0 refl (whole !))) (stop !))))) (from ! (stop !)) (init ! 8 refl (tt, tt)) $
-        assigns ! (agg ! (and-then ! (load ! (from ! (stop !)) (look ! 8 refl)) (and-then ! (load ! (from ! (fld ! refl (stop !))) (look-in ! 14 (sub ! 1 refl (whole !)))) (no-more !)))) (from ! (stop !)) (init ! 6 refl (tt, (tt, (record { fits = room .0 }, tt)))) $
+        copies 𝓤 H A W mem run κ₂ q₂ s₂ n₂ ! fm known-copied fits₂ (and-then ! (load ! (from ! (stop !)) (look ! 20 refl)) (and-then ! (load ! (from ! (stop !)) (look ! 10 refl)) (no-more !))) (λ u₂ rs₂ e₂ is₂.
+        land ! (from ! (stop !)) (init ! 12 refl (array-lawful 𝓤 H A W G.the-row (LL.lawful G.the-type G′.the-laws 𝓤 H A W) 4 .typed rs₂ _ is₂ .0)) $
+        -- [token 2; what s₂ owns; token 1; what s₁ owns; token 3; the buffer's; _10; …; _0; …]: _9 and _10 are the buffer lent on
+        assigns ! (addr ! (from ! (fld ! refl (hop ! (look-in ! 18 (sub ! 0 refl (whole !))) (stop !))))) (from ! (stop !)) (init ! 8 refl (tt, tt)) $
+        assigns ! (agg ! (and-then ! (load ! (from ! (stop !)) (look ! 8 refl)) (and-then ! (load ! (from ! (fld ! refl (stop !))) (look-in ! 18 (sub ! 1 refl (whole !)))) (no-more !)))) (from ! (stop !)) (init ! 6 refl (tt, (tt, (record { fits = room .0 }, tt)))) $
         move ! (4 ∷ 5 ∷ []) $ use2 W (raw (Inner 𝓤 H A mem run .pre (to-inner rs₁ rs₂ u₁ u₂))) (goes-inner rs₁ rs₂ u₁ u₂ is₁ is₂) $
         calls-at ! fm (Inner 𝓤 H A mem run) known-inner (to-inner rs₁ rs₂ u₁ u₂)
-        (and-then ! (load ! (from ! (stop !)) (look ! 19 refl)) (and-then ! (load ! (from ! (stop !)) (look ! 11 refl)) (and-then ! (load ! (from ! (stop !)) (look ! 9 refl)) (and-then ! (load ! (from ! (stop !)) (look ! 5 refl)) (no-more !))))) (λ u.
+        (and-then ! (load ! (from ! (stop !)) (look ! 23 refl)) (and-then ! (load ! (from ! (stop !)) (look ! 15 refl)) (and-then ! (load ! (from ! (stop !)) (look ! 11 refl)) (and-then ! (load ! (from ! (stop !)) (look ! 5 refl)) (no-more !))))) (λ u.
         use1 W (later (some (λ (r : Told). ((‵ (flft κ₃ q₃) ⊛ ‵ ftrue) ⊛ ‵ (R.the-row .own r (u ∷ []))) ⊛ raw (ensured 𝓤 H A inner.ended (inner.clauses 𝓤 H A mem run) (κ₃, tt) (x, (rs₁, (rs₂, (buffer, tt)))) tt r)))) (id⊢ 𝓤 _) $ await ! tt $ pick ! (λ r.
         split ! $ move ! (1 ∷ []) $ use1 W (some (λ (zs : Unit {0} × (Unit {0} × (Unit {0} × (List ℕ × Unit {0})))). ‵ (lasts inner.ended (κ₃, tt) (x, (rs₁, (rs₂, (buffer, tt)))) zs) ⊛ raw (fact 𝓤 (Said x rs₁ rs₂ ys (zs .1 .1 .1 .0) r)))) (id⊢ 𝓤 _) $ pick ! (λ zs.
         split ! $ move ! (1 ∷ []) $ heard ! (Said x rs₁ rs₂ ys (zs .1 .1 .1 .0) r) (λ e. fsplit ! $ drop ! $ fsplit ! $ drop ! $ fsplit ! $ drop ! $ fsplit ! $ fsplit ! $ move ! (1 ∷ []) $ feqL ! (λ l.
-        -- [the last bytes; true; token 3 and the result; token 2; what s₂ owns; token 1; what s₁ owns; _8; …; _0; …]
+        -- [the last bytes; true; token 3 and the result; token 2; what s₂ owns; token 1; what s₁ owns; _10; …; _0; …]
         move ! (2 ∷ []) $ split ! $ move ! (1 ∷ []) $
-        peeks ! R.the-row (Is R.the-row) (shows 𝓤 H A R.the-row) r (u ∷ []) (λ is. land ! (from ! (stop !)) (init ! 24 refl (LL.lawful R.the-type R′.the-laws 𝓤 H A W .typed r _ is .0)) $
-        returns ! (look ! 24 refl) $ forget ! 8 refl $ forget ! 10 refl $ forget ! 12 refl $ forget ! 14 refl $ forget ! 16 refl $ forget ! 18 refl $ forget ! 20 refl $ forget ! 22 refl $ forget ! 24 refl $
-        move ! (24 ∷ 25 ∷ []) $ free1 ! $ move ! (22 ∷ 23 ∷ []) $ free1 ! $ move ! (20 ∷ 21 ∷ []) $ free1 ! $ move ! (18 ∷ 19 ∷ []) $ free1 ! $ move ! (16 ∷ 17 ∷ []) $ free1 ! $ move ! (14 ∷ 15 ∷ []) $ free1 ! $ move ! (12 ∷ 13 ∷ []) $ free1 ! $ move ! (10 ∷ 11 ∷ []) $ free1 ! $ move ! (8 ∷ 9 ∷ []) $ free1 ! $ free0 ! $
+        peeks ! R.the-row (Is R.the-row) (shows 𝓤 H A R.the-row) r (u ∷ []) (λ is. land ! (from ! (stop !)) (init ! 28 refl (LL.lawful R.the-type R′.the-laws 𝓤 H A W .typed r _ is .0)) $
+        returns ! (look ! 28 refl) $ forget ! 8 refl $ forget ! 10 refl $ forget ! 12 refl $ forget ! 14 refl $ forget ! 16 refl $ forget ! 18 refl $ forget ! 20 refl $ forget ! 22 refl $ forget ! 24 refl $ forget ! 26 refl $ forget ! 28 refl $
+        move ! (28 ∷ 29 ∷ []) $ free1 ! $ move ! (26 ∷ 27 ∷ []) $ free1 ! $ move ! (24 ∷ 25 ∷ []) $ free1 ! $ move ! (22 ∷ 23 ∷ []) $ free1 ! $ move ! (20 ∷ 21 ∷ []) $ free1 ! $ move ! (18 ∷ 19 ∷ []) $ free1 ! $ move ! (16 ∷ 17 ∷ []) $ free1 ! $ move ! (14 ∷ 15 ∷ []) $ free1 ! $ move ! (12 ∷ 13 ∷ []) $ free1 ! $ move ! (10 ∷ 11 ∷ []) $ free1 ! $ move ! (8 ∷ 9 ∷ []) $ free1 ! $ free0 ! $
         keep ! (0 ∷ 1 ∷ 2 ∷ 4 ∷ 5 ∷ 6 ∷ 7 ∷ []) $
-        by ! (exits r u (zs .1 .1 .1 .0) (lent-told x (now s₁) (now s₂) e₁ e₂ e) l))))))))))))))))))))))))
+        by ! (exits r u (zs .1 .1 .1 .0) (lent-told x (now s₁) (now s₂) e₁ e₂ e) l))))))))))))))))))))))
 
 module _ {M : Type 1} (𝓤 : URA M) (H : Heap 𝓤) (A : Atoms 𝓤) (W : Given 𝓤 H A) (mem : Memory → SProp 𝓤) (run : Routine → Fun 𝓤) where
-  walks : (C : Calls 𝓤 H) (Λ : Loops 𝓤 H) → FmC 𝓤 H (W .laws) C → Triple 𝓤 (C #lists·first-four) (Copied 𝓤 H A W mem run) → Triple 𝓤 (C #koxaltes·tell-member) (Inner 𝓤 H A mem run)
+  walks : (C : Calls 𝓤 H) (Λ : Loops 𝓤 H) → FmC 𝓤 H (W .laws) C → Triple 𝓤 (C #lent·first-count) (FirstCount 𝓤 H A W mem run) → Triple 𝓤 (C #lent·second-count) (SecondCount 𝓤 H A W mem run)
+      → Triple 𝓤 (C #lists·first-groups) (Copied 𝓤 H A W mem run) → Triple 𝓤 (C #koxaltes·tell-member) (Inner 𝓤 H A mem run)
       → Walks 𝓤 H A self.ended stayed (WpFn 𝓤 H C Λ code.function) (self.clauses 𝓤 H A mem run)
-  walks C Λ fm known-copied known-inner = walked 𝓤 H A self.ended stayed (self.clauses 𝓤 H A mem run) (WpFn 𝓤 H C Λ code.function)
+  walks C Λ fm known-first known-second known-copied known-inner = walked 𝓤 H A self.ended stayed (self.clauses 𝓤 H A mem run) (WpFn 𝓤 H C Λ code.function)
       (λ κs. (LL.vals L.the-type L′.the-laws, (slice-vals, (slice-vals, (slice-vals, tt)))))
       (λ κs. (LL.tells L.the-type L′.the-laws, (shr-slice-tells (named 0) (κs .0) G.the-row, (shr-slice-tells (named 1) (κs .1 .0) G.the-row, (mut-slice-tells (named 2) (κs .1 .1 .0) u8, tt)))))
       (λ κs qs bounds a g are. via 𝓤 _ (fst∗ 𝓤 _ (emp 𝓤))
       (walk 𝓤 H A W mem run (κs .0) (κs .1 .0) (κs .1 .1 .0) (qs .0) (qs .1 .0) (qs .1 .1 .0) (a .0) _ (are .0) (a .1 .0) (a .1 .1 .0)
-      (a .1 .1 .1 .0 .ptr .0) (a .1 .1 .1 .0 .ptr .1) (a .1 .1 .1 .0 .name) (a .1 .1 .1 .0 .now) C Λ fm known-copied known-inner (are .1 .0) (are .1 .1 .0) (are .1 .1 .1 .0 .0 .1)))
+      (a .1 .1 .1 .0 .ptr .0) (a .1 .1 .1 .0 .ptr .1) (a .1 .1 .1 .0 .name) (a .1 .1 .1 .0 .now) C Λ fm known-first known-second known-copied known-inner (are .1 .0) (are .1 .1 .0) (are .1 .1 .1 .0 .0 .1)))
 
 meets : {M : Type 1} (𝓤 : URA M) (H : Heap 𝓤) (A : Atoms 𝓤) (W : Given 𝓤 H A) (mem : Memory → SProp 𝓤) (run : Routine → Fun 𝓤) (𝓣 : Tables 𝓤 H)
-    → Triple 𝓤 (𝓣 .C #lists·first-four) (Copied 𝓤 H A W mem run) → Triple 𝓤 (𝓣 .C #koxaltes·tell-member) (Inner 𝓤 H A mem run)
+    → Triple 𝓤 (𝓣 .C #lent·first-count) (FirstCount 𝓤 H A W mem run) → Triple 𝓤 (𝓣 .C #lent·second-count) (SecondCount 𝓤 H A W mem run)
+    → Triple 𝓤 (𝓣 .C #lists·first-groups) (Copied 𝓤 H A W mem run) → Triple 𝓤 (𝓣 .C #koxaltes·tell-member) (Inner 𝓤 H A mem run)
     → Meets 𝓤 H A self.signature (WpFn 𝓤 H (𝓣 .C) (𝓣 .Λ) code.function) (self.spec 𝓤 H A mem run)
-meets 𝓤 H A W mem run 𝓣 known-copied known-inner =
+meets 𝓤 H A W mem run 𝓣 known-first known-second known-copied known-inner =
     walk-meets 𝓤 H A self.ended stayed W (
       goes-none 𝓤 H A W 3 (λ _. L.the-row) yes (λ κs x f. refl),
       (
@@ -215,7 +228,7 @@ meets 𝓤 H A W mem run 𝓣 known-copied known-inner =
       ),
     )
     (self.clauses 𝓤 H A mem run) (WpFn 𝓤 H (𝓣 .C) (𝓣 .Λ) code.function) (WpFn-mono 𝓤 H (W .laws) 𝓣 code.function)
-    (walks 𝓤 H A W mem run (𝓣 .C) (𝓣 .Λ) (fmOf 𝓤 H (W .laws) 𝓣) known-copied known-inner)
+    (walks 𝓤 H A W mem run (𝓣 .C) (𝓣 .Λ) (fmOf 𝓤 H (W .laws) 𝓣) known-first known-second known-copied known-inner)
 
 pub koxaltes-member-report-spec : {M : Type 1} → stated.statement M
 unfolding code.routine tablesOf
@@ -223,5 +236,7 @@ koxaltes-member-report-spec 𝓤 H 𝓜 𝓖 𝓡 =
     entered 𝓤 H (tripleOf 𝓤 H (𝓖 .A) self.signature (self.spec 𝓤 H (𝓖 .A) (𝓜 .mem) (𝓡 .run)))
     (tables 𝓤 H 𝓜 𝓡 code.env .C) (tables 𝓤 H 𝓜 𝓡 code.env .Λ) #koxaltes·koxaltes-member-report code.function (code.unfolded 𝓤 H 𝓜 𝓡)
     (meets 𝓤 H (𝓖 .A) (givenOf 𝓤 H 𝓜 𝓖) (𝓜 .mem) (𝓡 .run) (tablesOf 𝓤 H 𝓜 (tables 𝓤 H 𝓜 𝓡 code.env))
-    (cited 𝓤 H (Copied 𝓤 H (𝓖 .A) (givenOf 𝓤 H 𝓜 𝓖) (𝓜 .mem) (𝓡 .run)) 𝓜 𝓡 code.env #lists·first-four copied-def.routine code.calls-lists·first-four (copied-thm.met 𝓤 H 𝓜 𝓖 𝓡))
+    (cited 𝓤 H (FirstCount 𝓤 H (𝓖 .A) (givenOf 𝓤 H 𝓜 𝓖) (𝓜 .mem) (𝓡 .run)) 𝓜 𝓡 code.env #lent·first-count first-def.routine code.calls-lent·first-count (first-thm.met 𝓤 H 𝓜 𝓖 𝓡))
+    (cited 𝓤 H (SecondCount 𝓤 H (𝓖 .A) (givenOf 𝓤 H 𝓜 𝓖) (𝓜 .mem) (𝓡 .run)) 𝓜 𝓡 code.env #lent·second-count second-def.routine code.calls-lent·second-count (second-thm.met 𝓤 H 𝓜 𝓖 𝓡))
+    (cited 𝓤 H (Copied 𝓤 H (𝓖 .A) (givenOf 𝓤 H 𝓜 𝓖) (𝓜 .mem) (𝓡 .run)) 𝓜 𝓡 code.env #lists·first-groups copied-def.routine code.calls-lists·first-groups (copied-thm.met 𝓤 H 𝓜 𝓖 𝓡))
     (cited 𝓤 H (Inner 𝓤 H (𝓖 .A) (𝓜 .mem) (𝓡 .run)) 𝓜 𝓡 code.env #koxaltes·tell-member inner-def.routine code.calls-koxaltes·tell-member (inner-thm.met 𝓤 H 𝓜 𝓖 𝓡)))

@@ -4,7 +4,7 @@ use mathlib.Core.Path.{_≡_, refl, sym, _∙_}
 use lib.Seq.{sets}
 use native.Mathlib.Omega.{arith}
 use borrow.Author.Needs.{needs}
-use Rattle.lent.specs.Lent.{part}
+use Rattle.lent.specs.Slots.{part}
 use Rattle.lent.proofs.Placed.{field-stored, none-left}
 use Rattle.lent.proofs.put_fields.Statement.{statement}
 use Rattle.lent.proofs.put_fields.Tie as tie

@@ -1,5 +1,5 @@
 -- `lent::slots_of` meets its contract.
-use Rattle.lent.specs.Lent.{lentSlots}
+use Rattle.lent.specs.Slots.{lentSlots}
 use borrow.Author.Tests.{ne-eqb}
 use borrow.Author.Needs.{needs}
 use Rattle.lent.proofs.slots_of.Statement.{statement}

@@ -1,12 +1,12 @@
 -- `told::refused_utilization` meets its contract.
-use mathlib.Core.Path.{refl}
 use lib.Ieee.{ofBits}
+use borrow.Author.Needs.{needs}
 use Rattle.told.proofs.refused_utilization.Statement.{statement}
 use Rattle.told.proofs.refused_utilization.Tie as tie
 
 returns : tie.Need-returns
 unfolding ofBits
-returns c = refl
+returns c = rw (c .number-of .ensures)
 
 pub refused-utilization-spec : {M : Type 1} → statement M
-refused-utilization-spec = tie.close (tie.spec returns)
+refused-utilization-spec = tie.close (tie.spec (λ c κs. search needs) returns)

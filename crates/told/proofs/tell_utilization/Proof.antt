@@ -15,17 +15,14 @@ with-governing-requires c κs = search needs
 enum-known-a-2 : tie.Need-enum-known-a-2
 enum-known-a-2 c = search needs
 
-number-of-requires : tie.Need-number-of-requires
-number-of-requires c κs = search needs
-
 refused-utilization-requires : tie.Need-refused-utilization-requires
 refused-utilization-requires c κs = search needs
 
 returns : tie.Need-returns
-returns c = let g = c .before in rw (g .before .before .a .given .1, c .with-governing .ensures, g .governing-of .ensures)
+returns c = let g = c .before in rw (g .before .before .a .given .1, c .with-governing .ensures, g .governing-of .ensures .value-is)
 
 returns-2 : tie.Need-returns-2
-returns-2 c = let n = c .before in rw (n .before .before .a2 .given .1, c .refused-utilization .ensures, n .number-of .ensures)
+returns-2 c = rw (c .before .before .a2 .given .1) (c .refused-utilization .ensures)
 
 pub tell-utilization-spec : {M : Type 1} → statement M
 tell-utilization-spec =
@@ -35,7 +32,6 @@ tell-utilization-spec =
     governing-of-requires
     with-governing-requires
     enum-known-a-2
-    number-of-requires
     refused-utilization-requires
     returns
     returns-2)

@@ -1,0 +1,188 @@
+-- Document 01's tabled cases ("One schedule, printed") and some beside them, in one table: what the definitions give for members and bytes that are written out.
+use Prim.Native.Nat.{ℕ, _*_}
+use Prim.Native.Char.{code}
+use Prim.Native.String.{String, [] as []ₛ, _∷_ as _∷ₛ_}
+use mathlib.Core.Path.{_≡_}
+use mathlib.Core.Bool.{true, false}
+use mathlib.Core.List.{List, [], _∷_, _++_}
+use lib.IntN.{negsuc}
+use lib.Ieee.{fin}
+use Rattle.text.specs.Text.{valueOf, wordOf, lineOf}
+use Rattle.outcome.specs.declared.Figure.the-variants.{Reached, Unreached}
+use Rattle.line.specs.Said.{saidBy}
+use Rattle.question.specs.declared.Question.the-variants.{Field}
+use Rattle.deflection.specs.Steps.{spanDivisor}
+use Rattle.stability.specs.Steps.{stability}
+use Rattle.ratio.specs.declared.Utilization.{Utilization}
+use Rattle.ratio.specs.Ratio.{nought, noRatio, four}
+use Rattle.governing.specs.Governing.{double, governingOf}
+use Rattle.governing.specs.Governing as governing
+use Rattle.utilization.specs.Utilized.{valuesGiven, valuesRefused}
+use Rattle.reading.specs.Reading.{got, no, refusal}
+use Rattle.schedule.specs.Schedule.{schedule}
+use Rattle.lines.specs.Lines.{memberText}
+use Rattle.lent.specs.Lent.{lentMember}
+use Rattle.totals.specs.Totals.{barTotals}
+use Rattle.koxaltes.specs.Claim.{lentReportOf}
+use Rattle.koxaltes.specs.Utilized.{lentUtilizationOf}
+use Rattle.printing.specs.Printing.{outputOf}
+use Rattle.cases.specs.Members.{
+  bars,
+  beamWith,
+  beam₁,
+  column₂,
+  mesh₃,
+  builtBeam,
+  builtColumn,
+  builtMesh,
+  placedBeam,
+  beamPlaced,
+  placedColumn,
+  columnPlaced,
+  placedMesh,
+  meshPlaced,
+  meshBytes,
+  scheduleBytes,
+}
+
+-- the bytes of a text in ASCII
+abbrev pub bytes : String → List ℕ
+bytes []ₛ = []
+bytes (c ∷ₛ s) = code c ∷ bytes s
+
+-- the report of document 01's schedule
+abbrev pub printed : List ℕ
+printed = bytes "members 3\n1 OK 179495 177587 172 1885\n2 OK 2816134 - - -\n3 OK 263 342 - -\n"
+
+-- ---- Utilizations as doubles.
+
+-- 150000/179495, 120000/177587, 172/300 and 1885/3000: 0.836, 0.676, 0.573, 0.628
+abbrev pub ofBeam : Utilization
+ofBeam =
+    record {
+      first = fin false 1881779281053997 (negsuc 50);
+      second = fin false 380399434702751 (negsuc 48);
+      third = fin false 5164127572718169 (negsuc 52);
+      fourth = fin false 5659523531728923 (negsuc 52);
+      firstReached = true;
+      secondReached = true;
+      thirdReached = true;
+      fourthReached = true;
+    }
+
+-- 2500000/2816134: 0.888
+abbrev pub ofColumn : Utilization
+ofColumn =
+    record {
+      first = fin false 1999016926827033 (negsuc 50);
+      second = nought;
+      third = nought;
+      fourth = nought;
+      firstReached = true;
+      secondReached = false;
+      thirdReached = false;
+      fourthReached = false;
+    }
+
+-- 263/270 and 342/350: 0.974, 0.977
+abbrev pub ofMesh : Utilization
+ofMesh =
+    record {
+      first = fin false 4386839637031261 (negsuc 51);
+      second = fin false 4400660207316313 (negsuc 51);
+      third = nought;
+      fourth = nought;
+      firstReached = true;
+      secondReached = true;
+      thirdReached = false;
+      fourthReached = false;
+    }
+
+abbrev pub ofNone : Utilization
+ofNone = four noRatio noRatio noRatio noRatio
+
+-- ---- The table.
+
+pub record Table : Type 0 where
+  -- lines of members
+  pub beam-1 : memberText (beam₁ 200 120000) ≡ bytes "1 OK 179495 177587 172 1885\n"
+  pub shear-reached : memberText (beam₁ 200 177587) ≡ bytes "1 OK 179495 177587 172 1885\n"
+  pub shear-exceeded : memberText (beam₁ 200 177588) ≡ bytes "1 4.3.3 179495 177587 - -\n"
+  pub links-apart : memberText (beam₁ 201 120000) ≡ bytes "1 5.5.6s 179495 177276 - -\n"
+  pub column-2 : memberText (column₂ 4000 2500000) ≡ bytes "2 OK 2816134 - - -\n"
+  pub force-reached : memberText (column₂ 4000 2816134) ≡ bytes "2 OK 2816134 - - -\n"
+  pub force-exceeded : memberText (column₂ 4000 2816135) ≡ bytes "2 4.2.4 2816134 - - -\n"
+  pub mesh-3 : memberText (mesh₃ 270 350) ≡ bytes "3 OK 263 342 - -\n"
+  pub lap-short : memberText (mesh₃ 270 341) ≡ bytes "3 5.3.7 263 342 - -\n"
+  pub anchorage-short : memberText (mesh₃ 262 341) ≡ bytes "3 5.2.5 263 - - -\n"
+  -- 4.2.3, 360·12568·420/10000: two bars in compression, and five, where t is below 0
+  pub compression : memberText (beamWith (bars 2 20) 40 200 120000) ≡ bytes "1 OK 190028 177587 172 1696\n"
+  pub compression-above : memberText (beamWith (bars 5 20) 40 200 120000) ≡ bytes "1 OK 190028 177587 172 1508\n"
+  -- l0/b of 8 and 50, and φ in hundredths there, where the steps write 200·b for 1
+  pub stocky : memberText (column₂ (8 * 400) 2500000) ≡ bytes "2 OK 2873606 - - -\n"
+  pub slender : memberText (column₂ (50 * 400) 2500000) ≡ bytes "2 4.2.4 545985 - - -\n"
+  pub stability-8 : stability (8 * 400) 400 ≡ 100 * (2 * 400)
+  pub stability-50 : stability (50 * 400) 400 ≡ 19 * (2 * 400)
+  -- limits of 28 and 36 mm at spans of 7000 and 9000
+  pub limit-7000 : 28 * spanDivisor 7000 0 ≡ 7000
+  pub limit-9000 : 36 * spanDivisor 9000 0 ≡ 9000
+  -- schedules
+  pub schedule-read : schedule (scheduleBytes 1) ≡ got (beam₁ 200 120000 ∷ column₂ 4000 2500000 ∷ mesh₃ 270 350 ∷ [])
+  pub schedule-printed : outputOf (scheduleBytes 1) ≡ printed
+  pub steel-three : outputOf (scheduleBytes 3) ≡ bytes "refused 7 member 2\n"
+  pub none : outputOf (0 ∷ []) ≡ bytes "members 0\n"
+  pub empty-file : outputOf [] ≡ bytes "refused 2 member 0\n"
+  pub all-ones : outputOf (255 ∷ 255 ∷ 255 ∷ 255 ∷ 255 ∷ 255 ∷ []) ≡ bytes "refused 3 member 0\n"
+  pub five-hundred : outputOf (244 ∷ 3 ∷ []) ≡ bytes "refused 2 member 1\n"
+  pub one-more : outputOf (245 ∷ 3 ∷ []) ≡ bytes "refused 4 member 0\n"
+  pub mark-zero : outputOf (1 ∷ 0 ∷ []) ≡ bytes "refused 5 member 1\n"
+  pub mark-stays : outputOf (2 ∷ (meshBytes 1 ++ meshBytes 1)) ≡ bytes "refused 5 member 2\n"
+  pub kind-four : outputOf (1 ∷ 1 ∷ 4 ∷ []) ≡ bytes "refused 6 member 1\n"
+  pub cross-bar-two : outputOf (1 ∷ 1 ∷ 3 ∷ 1 ∷ 30 ∷ 10 ∷ 2 ∷ []) ≡ bytes "refused 7 member 1\n"
+  pub ends-in-a-field : outputOf (1 ∷ 1 ∷ 2 ∷ 172 ∷ 2 ∷ 172 ∷ 2 ∷ 30 ∷ []) ≡ bytes "refused 2 member 1\n"
+  pub byte-left : outputOf (0 ∷ 0 ∷ []) ≡ bytes "refused 11 member 0\n"
+  -- what the bytes of a report say, and those of a line
+  pub total-said : valueOf (wordOf 1 (lineOf 0 printed)) ≡ 3
+  pub passed-said :
+      saidBy (lineOf 1 printed) ≡ record {
+        mark = 1;
+        word = bytes "OK";
+        first = Reached 179495;
+        second = Reached 177587;
+        third = Reached 172;
+        fourth = Reached 1885;
+      }
+  pub failed-said :
+      saidBy (bytes "1 4.3.3 179495 177587 - -") ≡ record {
+        mark = 1;
+        word = bytes "4.3.3";
+        first = Reached 179495;
+        second = Reached 177587;
+        third = Unreached;
+        fourth = Unreached;
+      }
+  -- members that a caller builds: which field stands where, and that each list is taken up to its count
+  pub placed-beam : lentMember placedBeam (bars 1 6 ++ bars 2 8) (bars 3 10 ++ (bars 4 12 ++ bars 5 14)) ≡ beamPlaced (bars 1 6) (bars 3 10 ++ bars 4 12)
+  pub placed-column : lentMember placedColumn (bars 1 6 ++ (bars 2 8 ++ bars 3 10)) (bars 4 12) ≡ columnPlaced (bars 1 6 ++ bars 2 8)
+  pub placed-mesh : lentMember placedMesh (bars 1 6) (bars 2 8) ≡ meshPlaced
+  -- document 01's, their lines, and a count above its list (question 7 of member 1)
+  pub built-beam : lentMember (builtBeam 1) (bars 4 20) [] ≡ beam₁ 200 120000
+  pub built-column : lentMember builtColumn (bars 8 20) [] ≡ column₂ 4000 2500000
+  pub built-mesh : lentMember (builtMesh 270 350) [] [] ≡ mesh₃ 270 350
+  pub line-1 : lentReportOf (builtBeam 1) (bars 4 20) [] ≡ got (bytes "1 OK 179495 177587 172 1885\n")
+  pub line-2 : lentReportOf builtColumn (bars 8 20) [] ≡ got (bytes "2 OK 2816134 - - -\n")
+  pub line-3 : lentReportOf (builtMesh 270 350) [] [] ≡ got (bytes "3 OK 263 342 - -\n")
+  pub count-above : lentReportOf (builtBeam 2) (bars 4 20) [] ≡ no (refusal Field 1)
+  -- totals of a list: S in tenths of mm², D and E; and a count above the list
+  pub totals : barTotals 1 (bars 4 20) ≡ record { question = 0; member = 0; bars = 4; area = 12568; diameters = 80; squares = 1600 }
+  pub totals-above : barTotals 2 (bars 4 20) ≡ record { question = 7; member = 1; bars = 0; area = 0; diameters = 0; squares = 0 }
+  -- their utilizations; an anchorage given as 0 fails and has none; a length above 100000 is refused
+  pub utilization-1 : lentUtilizationOf (builtBeam 1) (bars 4 20) [] ≡ valuesGiven ofBeam
+  pub utilization-2 : lentUtilizationOf builtColumn (bars 8 20) [] ≡ valuesGiven ofColumn
+  pub utilization-3 : lentUtilizationOf (builtMesh 270 350) [] [] ≡ valuesGiven ofMesh
+  pub utilization-none : lentUtilizationOf (builtMesh 0 350) [] [] ≡ valuesGiven ofNone
+  pub utilization-refused : lentUtilizationOf (builtMesh 270 100001) [] [] ≡ valuesRefused (refusal Field 1)
+  -- the moment governs the beam, the lap the mesh
+  pub governs-1 : governingOf ofBeam ≡ double (ofBeam .first)
+  pub governs-3 : governingOf ofMesh ≡ double (ofMesh .second)
+  pub governs-none : governingOf ofNone ≡ governing.none

@@ -1,0 +1,226 @@
+-- The slots into which a lent member is put hold that member, and the questions put to them are its own.
+use Prim.Native.Nat.{ℕ, zero, suc, _+_, _≤_, _<_}
+use mathlib.Core.Path.{_≡_, refl, sym, ap, ap₂, _∙_}
+use mathlib.Core.Bool.{Bool, true, false, _&&_}
+use mathlib.Core.List.{List, [], _∷_, _++_}
+use mathlib.Core.Logic.{⊎-elim}
+use native.Mathlib.Nat.{add-zero}
+use native.Mathlib.Omega.{arith}
+use lib.Dec.{ltb, eqb, ltb→lt}
+use lib.ListN.{length, getD, take, drop}
+use borrow.Author.Tests.{lt-ltb, le-leb}
+use Rattle.quantity.specs.Choice.{if_then_else_}
+use Rattle.quantity.proofs.Choice.{both-true, and-true, and-false, and-assoc, and-comm}
+use Rattle.question.specs.declared.Question.the-variants.{Mark, Kind, Field}
+use Rattle.bars.specs.declared.Group.{Group}
+use Rattle.member.specs.Member.{beam, column, mesh}
+use Rattle.domain.specs.declared.Domain.{Domain}
+use Rattle.domain.specs.declared.Domain.the-variants.{Range}
+use Rattle.domain.specs.Domain.{groupDiameter, groupBars, holds, asked, fieldHolds}
+use Rattle.domain.proofs.Between.{in-between}
+use Rattle.field.specs.Fields.{groups, beamFields, columnFields, meshFields, fieldsOf, known}
+use Rattle.slots.specs.Slots.{fieldsHold}
+use Rattle.layout.specs.Layout.{beamAt, columnAt, meshAt, memberAt}
+use Rattle.layout.proofs.Held.{hold-at, known-cases}
+use Rattle.built.specs.declared.Built.{Built}
+use Rattle.built.specs.declared.Verdict.the-variants.{Accepted}
+use Rattle.built.specs.Verdict.{ask, markInRange, verdictOf, memberVerdict, builtVerdict}
+use Rattle.built.proofs.Accepted.{asked-yes}
+use Rattle.lists.specs.Lists.{groupHolds, groupsHold, namedHold}
+use Rattle.lists.specs.Copied.{noGroup}
+use Rattle.lists.proofs.Named.{named-groups, named-hold}
+use Rattle.lent.specs.declared.Lent.{Lent}
+use Rattle.lent.specs.Lent.{given, lentBeam, lentColumn, lentMember, ungrouped, firstCount, secondCount, lentFieldsHold, lentVerdict}
+use Rattle.lent.specs.Slots.{beamSlots, columnSlots, meshSlots, filled, lentSlots, builtOf}
+
+-- ---- Tests in another order.
+
+-- the second test matters only where the first holds
+where-first : (a : Bool) {x y : Bool} → (a ≡ true → x ≡ y) → (a && x) ≡ (a && y)
+where-first true f = f refl
+where-first false f = refl
+
+groups-last : (p a c b r : Bool) → (p && (a && (c && (b && r)))) ≡ (p && (c && r) && (a && b))
+groups-last false a c b r = refl
+groups-last true false c b r = sym (and-false (c && r))
+groups-last true true false b r = refl
+groups-last true true true b r = and-comm b r
+
+group-last : (p a r : Bool) → (p && (a && r)) ≡ (p && r && (a && true))
+group-last false a r = refl
+group-last true a r = and-comm a r ∙ ap (λ (b : Bool). r && b) (sym (and-true a))
+
+-- ---- Question 7 of a table of fields in parts.
+
+fields-split : (ds es : List Domain) (i : ℕ) (v : List ℕ) → fieldsHold (ds ++ es) i v ≡ (fieldsHold ds i v && fieldsHold es (i + length ds) v)
+fields-split [] es i v = rw (add-zero i)
+fields-split (d ∷ ds) es i v =
+    let e : i + 1 + length ds ≡ i + suc (length ds) = omega arith in
+    ap (λ (b : Bool). fieldHolds d i v && b) (rw (← e) (fields-split ds es (i + 1) v)) ∙ sym (and-assoc (fieldHolds d i v) _ _)
+
+-- a field that is a count up to 4
+at-most-four : (fs : List Domain) (lo k : ℕ) (v : List ℕ) → fieldsHold fs 0 v ≡ true → k < length fs → getD fs k (Range 0 0) ≡ Range lo 4 → given v k ≤ 4
+unfolding fieldHolds asked holds
+at-most-four fs lo k v e h d = in-between {lo = lo} {hi = 4} {x = given v k} (rw d at (hold-at fs v e k h)) .1
+
+-- one group's two fields, asked where its place is below the count n
+abbrev asks : ℕ → ℕ → Group → Bool → Bool
+asks n place g next = (if ltb place n then groupDiameter (g .diameter) else true) && ((if ltb place n then groupBars (g .bars) else true) && next)
+
+none-hold : (n : ℕ) → groupsHold (take n []) ≡ true
+none-hold zero = refl
+none-hold (suc n) = refl
+
+-- a group that is asked
+named : (n place : ℕ) (g : Group) {next next′ : Bool} → ltb place n ≡ true → next ≡ next′ → asks n place g next ≡ (groupHolds g && next′)
+named n place g e f = rw (e, f) (sym (and-assoc (groupDiameter (g .diameter)) (groupBars (g .bars)) _))
+
+-- the fields of a list of groups hold where the groups that its count names do
+groups-hold : (n : ℕ) (a b c d : Group) → asks n 0 a (asks n 1 b (asks n 2 c (asks n 3 d true))) ≡ groupsHold (take n (a ∷ b ∷ c ∷ d ∷ []))
+groups-hold zero a b c d = refl
+groups-hold (suc zero) a b c d = named 1 0 a refl refl
+groups-hold (suc (suc zero)) a b c d = named 2 0 a refl (named 2 1 b refl refl)
+groups-hold (suc (suc (suc zero))) a b c d = named 3 0 a refl (named 3 1 b refl (named 3 2 c refl refl))
+groups-hold (suc (suc (suc (suc n)))) a b c d =
+    let m = suc (suc (suc (suc n))) in
+    named m 0 a (lt-ltb 0 m (omega arith)) (named m 1 b (lt-ltb 1 m (omega arith)) (named m 2 c (lt-ltb 2 m (omega arith)) (named m 3 d (lt-ltb 3 m (omega arith)) (sym (none-hold n)))))
+
+-- the fields of the groups that a count n names in a list, copied out, hold where the list's do
+list-holds : (n : ℕ) (list : List Group) → n ≤ 4
+    → asks n 0 (getD (take n list) 0 noGroup) (asks n 1 (getD (take n list) 1 noGroup) (asks n 2 (getD (take n list) 2 noGroup) (asks n 3 (getD (take n list) 3 noGroup) true))) ≡ namedHold n list
+list-holds n list h = groups-hold n (getD (take n list) 0 noGroup) (getD (take n list) 1 noGroup) (getD (take n list) 2 noGroup) (getD (take n list) 3 noGroup) ∙ named-hold n list h
+
+none-named : (list : List Group) → namedHold 0 list ≡ true
+unfolding namedHold
+none-named list = rw (le-leb 0 (length list) (omega arith))
+
+-- ---- Question 7 of each kind.
+
+module _ (v : List ℕ) (first second : List Group) where
+  beam-slots : List ℕ
+  beam-slots = filled (beamSlots v (take (given v 8) first) (take (given v 9) second))
+
+  column-slots : List ℕ
+  column-slots = filled (columnSlots v (take (given v 4) first))
+
+  tension-most : fieldsHold (take 9 beamFields) 0 v ≡ true → given v 8 ≤ 4
+  tension-most p = at-most-four (take 9 beamFields) 1 8 v p (ltb→lt 8 9 tt) refl
+
+  compression-most : holds (Range 0 4) (given v 9) ≡ true → given v 9 ≤ 4
+  unfolding holds
+  compression-most q = in-between {lo = 0} {hi = 4} q .1
+
+  column-most : fieldsHold (take 5 columnFields) 0 v ≡ true → given v 4 ≤ 4
+  column-most p = at-most-four (take 5 columnFields) 1 4 v p (ltb→lt 4 5 tt) refl
+
+  beam-holds : fieldsHold beamFields 0 beam-slots ≡ (fieldsHold (ungrouped beamFields) 0 v && (namedHold (given v 8) first && namedHold (given v 9) second))
+  unfolding fieldHolds asked holds beam-slots
+  beam-holds =
+      fields-split (take 9 beamFields) (drop 9 beamFields) 0 beam-slots
+      ∙ where-first (fieldsHold (take 9 beamFields) 0 v)
+      (λ p. fields-split (groups 8) (drop 17 beamFields) 9 beam-slots ∙ ap₂ _&&_ (list-holds (given v 8) first (tension-most p))
+      (where-first (holds (Range 0 4) (given v 9))
+      (λ q. fields-split (groups 17) (drop 26 beamFields) 18 beam-slots ∙ ap (λ (b : Bool). b && fieldsHold (drop 26 beamFields) 10 v) (list-holds (given v 9) second (compression-most q)))))
+      ∙ groups-last (fieldsHold (take 9 beamFields) 0 v) (namedHold (given v 8) first) (holds (Range 0 4) (given v 9)) (namedHold (given v 9) second) (fieldsHold (drop 26 beamFields) 10 v)
+      ∙ ap (λ (b : Bool). b && (namedHold (given v 8) first && namedHold (given v 9) second)) (sym (fields-split (take 9 beamFields) (drop 9 (ungrouped beamFields)) 0 v))
+
+  column-holds : fieldsHold columnFields 0 column-slots ≡ (fieldsHold (ungrouped columnFields) 0 v && (namedHold (given v 4) first && namedHold 0 second))
+  unfolding fieldHolds asked holds column-slots
+  column-holds =
+      fields-split (take 5 columnFields) (drop 5 columnFields) 0 column-slots
+      ∙ where-first (fieldsHold (take 5 columnFields) 0 v)
+      (λ p. fields-split (groups 4) (drop 13 columnFields) 5 column-slots ∙ ap (λ (b : Bool). b && fieldsHold (drop 13 columnFields) 5 v) (list-holds (given v 4) first (column-most p)))
+      ∙ group-last (fieldsHold (take 5 columnFields) 0 v) (namedHold (given v 4) first) (fieldsHold (drop 13 columnFields) 5 v)
+      ∙ ap₂ (λ (b c : Bool). b && (namedHold (given v 4) first && c)) (sym (fields-split (take 5 columnFields) (drop 5 (ungrouped columnFields)) 0 v)) (sym (none-named second))
+
+  mesh-holds : fieldsHold meshFields 0 (filled (meshSlots v)) ≡ (fieldsHold (ungrouped meshFields) 0 v && (namedHold 0 first && namedHold 0 second))
+  unfolding fieldHolds asked
+  mesh-holds = sym (and-true (fieldsHold meshFields 0 v)) ∙ ap₂ (λ (b c : Bool). fieldsHold meshFields 0 v && (b && c)) (sym (none-named first)) (sym (none-named second))
+
+  -- ---- The member of each kind, where question 7 holds.
+
+  beam-is : (fieldsHold (ungrouped beamFields) 0 v && (namedHold (given v 8) first && namedHold (given v 9) second)) ≡ true → beamAt beam-slots ≡ lentBeam v first second
+  unfolding beamAt lentBeam beam-slots fieldHolds asked
+  beam-is e =
+      let f = both-true (fieldsHold (ungrouped beamFields) 0 v) _ e in
+      let n = both-true (namedHold (given v 8) first) _ (f .1) in
+      let p = both-true (fieldsHold (take 9 beamFields) 0 v) _ (sym (fields-split (take 9 beamFields) (drop 9 (ungrouped beamFields)) 0 v) ∙ f .0) in
+      let q = both-true (holds (Range 0 4) (given v 9)) _ (p .1) in
+      rw (named-groups (given v 8) first (tension-most (p .0)) (n .0), named-groups (given v 9) second (compression-most (q .0)) (n .1))
+
+  column-is : (fieldsHold (ungrouped columnFields) 0 v && (namedHold (given v 4) first && namedHold 0 second)) ≡ true → columnAt column-slots ≡ lentColumn v first
+  unfolding columnAt lentColumn column-slots fieldHolds asked
+  column-is e =
+      let f = both-true (fieldsHold (ungrouped columnFields) 0 v) _ e in
+      let p = both-true (fieldsHold (take 5 columnFields) 0 v) _ (sym (fields-split (take 5 columnFields) (drop 5 (ungrouped columnFields)) 0 v) ∙ f .0) in
+      rw (named-groups (given v 4) first (column-most (p .0)) (both-true (namedHold (given v 4) first) _ (f .1) .0))
+
+  mesh-is : meshAt (filled (meshSlots v)) ≡ meshAt v
+  unfolding meshAt
+  mesh-is = refl
+
+-- ---- A member of any kind.
+
+-- a mark has no part in questions 8 to 10
+mark-free : (mark kind : ℕ) (v : List ℕ) → verdictOf (memberAt 0 kind v) ≡ verdictOf (memberAt mark kind v)
+unfolding memberAt
+mark-free mark kind v = of-kind (eqb kind 1) (eqb kind 2)
+  where
+    of-kind : (a b : Bool)
+        → verdictOf (if a then beam 0 (beamAt v) else if b then column 0 (columnAt v) else mesh 0 (meshAt v))
+        ≡ verdictOf (if a then beam mark (beamAt v) else if b then column mark (columnAt v) else mesh mark (meshAt v))
+    of-kind true b = refl
+    of-kind false true = refl
+    of-kind false false = refl
+
+module _ (x : Lent) (first second : List Group) where
+  abbrev v : List ℕ
+  v = x .fields .v
+
+  -- the member as the code builds it, of the groups that the counts name, and its slots
+  abbrev pub copied : Built
+  copied = builtOf x (take (firstCount (x .kind) v) first) (take (secondCount (x .kind) v) second)
+
+  abbrev pub slots : List ℕ
+  slots = copied .fields .v
+
+  fields-hold : known (x .kind) ≡ true → fieldsHold (fieldsOf (x .kind)) 0 slots ≡ lentFieldsHold (x .kind) v first second
+  unfolding lentSlots lentFieldsHold fieldsOf beam-slots column-slots
+  fields-hold k =
+      ⊎-elim
+      (λ p. rw p (beam-holds v first second))
+      (λ q. ⊎-elim (λ p. rw p (column-holds v first second)) (λ p. rw p (mesh-holds v first second)) q)
+      (known-cases (x .kind) k)
+
+  member-is : known (x .kind) ≡ true → lentFieldsHold (x .kind) v first second ≡ true → memberAt (x .mark) (x .kind) slots ≡ lentMember x first second
+  unfolding lentSlots lentFieldsHold fieldsOf beam-slots column-slots memberAt lentMember
+  member-is k e =
+      ⊎-elim
+      (λ p. rw p (ap (beam (x .mark)) (beam-is v first second (rw p at e))))
+      (λ q. ⊎-elim (λ p. rw p (ap (column (x .mark)) (column-is v first second (rw p at e)))) (λ p. rw p (ap (mesh (x .mark)) (mesh-is v first second))) q)
+      (known-cases (x .kind) k)
+
+  -- the questions of the slots are those of the lent member
+  pub lent-verdict : builtVerdict (x .mark) (x .kind) slots ≡ lentVerdict x first second
+  unfolding builtVerdict lentVerdict memberVerdict
+  lent-verdict = ap (ask Mark (markInRange (x .mark))) (of-kind (known (x .kind)) refl)
+    where
+      of-fields : (b : Bool) → lentFieldsHold (x .kind) v first second ≡ b → known (x .kind) ≡ true
+          → ask Field b (verdictOf (memberAt 0 (x .kind) slots)) ≡ ask Field b (verdictOf (lentMember x first second))
+      of-fields true e k = mark-free (x .mark) (x .kind) slots ∙ ap verdictOf (member-is k e)
+      of-fields false e k = refl
+
+      of-kind : (b : Bool) → known (x .kind) ≡ b
+          → ask Kind b (ask Field (fieldsHold (fieldsOf (x .kind)) 0 slots) (verdictOf (memberAt 0 (x .kind) slots)))
+          ≡ ask Kind b (ask Field (lentFieldsHold (x .kind) v first second) (verdictOf (lentMember x first second)))
+      of-kind true k = rw (fields-hold k) (of-fields (lentFieldsHold (x .kind) v first second) refl k)
+      of-kind false k = refl
+
+  -- an accepted member is the one in the slots
+  pub lent-member : builtVerdict (x .mark) (x .kind) slots ≡ Accepted → memberAt (x .mark) (x .kind) slots ≡ lentMember x first second
+  unfolding builtVerdict
+  lent-member a =
+      let m = asked-yes Mark (markInRange (x .mark)) _ a in
+      let k = asked-yes Kind (known (x .kind)) _ (m .1) in
+      let f = asked-yes Field (fieldsHold (fieldsOf (x .kind)) 0 slots) _ (k .1) in
+      member-is (k .0) (sym (fields-hold (k .0)) ∙ f .0)

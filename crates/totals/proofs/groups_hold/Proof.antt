@@ -1,0 +1,62 @@
+-- `totals::groups_hold` meets its contract: `all` says whether the groups before i hold.
+use Prim.Native.Nat.{_-_, _≤_}
+use mathlib.Core.Path.{_≡_, refl}
+use lib.ListN.{take}
+use borrow.Author.Needs.{needs}
+use Rattle.lists.specs.Lists.{groupsHold}
+use Rattle.totals.proofs.Totals.{hold-more}
+use Rattle.totals.proofs.groups_hold.Statement.{statement}
+use Rattle.totals.proofs.groups_hold.Tie as tie
+
+abbrev Inv-loop : tie.InvT-loop
+Inv-loop count groups all₀ i₀ all i = (i ≤ count) × (all ≡ groupsHold (take i groups))
+
+abbrev μ-loop : tie.MeasureT-loop
+μ-loop count groups all₀ i₀ all i = count - i
+
+loop-holds : tie.Need-loop-holds Inv-loop μ-loop
+loop-holds c = (search needs, refl)
+
+mul-group-holds : tie.Need-mul-group-holds Inv-loop μ-loop
+mul-group-holds c = search needs
+
+array-copy-out-group-holds : tie.Need-array-copy-out-group-holds Inv-loop μ-loop
+array-copy-out-group-holds c = search needs
+
+group-holds-requires : tie.Need-group-holds-requires Inv-loop μ-loop
+group-holds-requires c κs = search needs
+
+both-requires : tie.Need-both-requires Inv-loop μ-loop
+both-requires c κs = search needs
+
+add-i : tie.Need-add-i Inv-loop μ-loop
+add-i c = search needs
+
+loop-less : tie.Need-loop-less Inv-loop μ-loop
+loop-less c = search needs
+
+loop-again : tie.Need-loop-again Inv-loop μ-loop
+loop-again c =
+    let a = c .before .before .before .before in
+    (search needs, rw (c .both .ensures, a .loop .inv .1, c .before .group-holds .ensures) (hold-more (a .before .args .t1) (a .loop .i) (search needs)))
+
+returns : tie.Need-returns Inv-loop μ-loop
+returns c =
+    let e : c .before .loop .i ≡ c .before .before .args .count = search needs in
+    rw (← e) (c .before .loop .inv .1)
+
+pub groups-hold-spec : {M : Type 1} → statement M
+groups-hold-spec =
+    tie.close
+    (tie.spec
+    Inv-loop
+    μ-loop
+    loop-holds
+    mul-group-holds
+    array-copy-out-group-holds
+    group-holds-requires
+    both-requires
+    add-i
+    loop-less
+    loop-again
+    returns)
