@@ -1,6 +1,8 @@
 //! Document 01's printed schedule and tabled cases.
 
-use crate::make::{encode, Record};
+use std::path::Path;
+
+use crate::make::{encode, vectors, Record};
 use crate::model::built::{totals, Group};
 use crate::model::member::{Body, Member};
 use crate::model::report::{refusal_text, report};
@@ -46,6 +48,23 @@ fn printed_schedule() {
     let expected = "members 3\n1 OK 179495 177587 172 1885\n2 OK 2816134 - - -\n3 OK 263 342 - -\n";
     assert_eq!(printed(&encode(&[beam(), column(), mesh()])), expected);
     assert_eq!(printed(&[0]), "members 0\n");
+}
+
+/// What the crates that run the report program store beside their inputs.
+#[test]
+fn stored_runs() {
+    let crates = Path::new(env!("CARGO_MANIFEST_DIR")).join("../crates");
+    let read = |name: &str, file: &str| std::fs::read(crates.join(name).join(file)).unwrap();
+    for name in [
+        "cage_report",
+        "run_no_members",
+        "run_500_members",
+        "run_refused",
+        "run_longest_input",
+        "run_too_long",
+    ] {
+        assert_eq!(vectors::printed(&read(name, "stdin")), read(name, "stdout"), "{name}");
+    }
 }
 
 #[test]

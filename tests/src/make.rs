@@ -10,6 +10,7 @@ pub mod lists;
 pub mod meshes;
 pub mod random;
 pub mod record;
+pub mod stored;
 pub mod vectors;
 
 pub use beams::{hugging_beams, random_beam};

@@ -1,4 +1,4 @@
-//! Vectors for another test program: some 300 members that reach every case, and damaged schedules.
+//! Vectors for another test program: some 300 members that reach every case, damaged schedules, and one vector that is wrong on purpose.
 
 use std::collections::{BTreeMap, BTreeSet};
 
@@ -12,6 +12,9 @@ use crate::model::report;
 /// Members, and how many schedules have the same refusal.
 pub const MEMBERS: usize = 300;
 const ALIKE: usize = 8;
+
+/// The bytes that the program `vectors` reads.
+const ROOM: usize = 200_000;
 
 /// The cases that a record reaches, if it is accepted.
 fn cases(record: &Record) -> Option<Vec<Case>> {
@@ -57,7 +60,7 @@ pub fn members(random: &Random) -> Vec<Record> {
 }
 
 /// What the report program prints for a schedule's bytes.
-fn printed(schedule: &[u8]) -> Vec<u8> {
+pub fn printed(schedule: &[u8]) -> Vec<u8> {
     let mut text = vec![0; 64_000];
     match report::report(schedule, &mut text) {
         Ok(length) => text.truncate(length),
@@ -98,15 +101,31 @@ fn schedules(random: &Random) -> Vec<Vec<u8>> {
     schedules
 }
 
-/// A row of vectors: a schedule and the text expected, each after its length in two bytes, low byte first.
+/// Appends a schedule and the text expected, each after its length in two bytes, low byte first.
+fn put_vector(row: &mut Vec<u8>, schedule: &[u8], text: &[u8]) {
+    for part in [schedule, text] {
+        let length = u16::try_from(part.len()).expect("a part of at most 65,535 bytes");
+        row.extend(length.to_le_bytes());
+        row.extend(part);
+    }
+}
+
+/// The text of a schedule with its last character changed, before the line's end.
+fn wrong(schedule: &[u8]) -> Vec<u8> {
+    let mut text = printed(schedule);
+    let last = text.len() - 2;
+    text[last] ^= 1;
+    text
+}
+
+/// A row of vectors and how many there are. The last one's text is wrong on purpose: whoever compares must count one unequal.
 pub fn vectors(random: &Random) -> (usize, Vec<u8>) {
     let schedules = schedules(random);
     let mut row = Vec::new();
     for schedule in &schedules {
-        for part in [schedule, &printed(schedule)] {
-            row.extend((part.len() as u16).to_le_bytes());
-            row.extend(part);
-        }
+        put_vector(&mut row, schedule, &printed(schedule));
     }
-    (schedules.len(), row)
+    put_vector(&mut row, &schedules[0], &wrong(&schedules[0]));
+    assert!(row.len() <= ROOM, "{} bytes", row.len());
+    (schedules.len() + 1, row)
 }

@@ -1,16 +1,13 @@
 -- `vectors::agrees` meets its contract.
 use Prim.Native.Nat.{_≤_}
-use mathlib.Core.Path.{_≡_}
+use mathlib.Core.Path.{_≡_, _∙_}
 use native.Mathlib.Omega.{arith}
 use lib.ListN.{length, take}
 use Rattle.printing.proofs.Printing.{within}
+use Rattle.vectors.proofs.Bytes.{output}
 use borrow.Author.Needs.{needs}
 use Rattle.vectors.proofs.agrees.Statement.{statement}
 use Rattle.vectors.proofs.agrees.Tie as tie
-use Rattle.vectors.proofs.agrees.Reads as reads
-use Rattle.vectors.proofs.agrees.Lts as lts
-use Rattle.printing.proofs.print_schedule.Reads as print-schedule-reads
-use Rattle.vectors.proofs.same.Reads as same-reads
 
 -- what is printed stands within the buffer
 printed : (c : tie.After-print-schedule) →
@@ -35,7 +32,10 @@ same-requires : tie.Need-same-requires
 same-requires c κs = search needs
 
 returns : tie.Need-returns
-returns c = search needs
+returns c =
+    let q = c .before .before .before in
+    let e = output _ _ _ _ (q .print-schedule .ensures) (omega arith) in
+    c .same .ensures ∙ rw e
 
 pub agrees-spec : {M : Type 1} → statement M
 agrees-spec =

@@ -1,0 +1,61 @@
+-- `console::print_output` meets its contract.
+use Prim.Native.Nat.{_≤_}
+use mathlib.Core.Path.{_≡_}
+use native.Mathlib.Omega.{arith}
+use lib.ListN.{length, take}
+use Rattle.printing.proofs.Printing.{within}
+use borrow.Author.Needs.{needs}
+use Rattle.console.proofs.print_output.Statement.{statement}
+use Rattle.console.proofs.print_output.Tie as tie
+use Rattle.console.proofs.print_output.Reads as reads
+use Rattle.console.proofs.print_output.Lts as lts
+use Rattle.io.proofs.write_all.Reads as write-all-reads
+use Rattle.printing.proofs.print_schedule.Reads as print-schedule-reads
+
+-- what is printed stands within the buffer
+printed : (c : tie.After-print-schedule) →
+    let n = c .print-schedule .result in
+    let out = c .print-schedule .last .1 .0 in
+    (n ≤ length out) × (n ≡ length (take n out))
+printed c = within _ _ _ _ (c .print-schedule .ensures) (omega arith)
+
+slice-aggregate-print-schedule : tie.Need-slice-aggregate-print-schedule
+slice-aggregate-print-schedule c = search needs
+
+print-schedule-requires : tie.Need-print-schedule-requires
+print-schedule-requires c κs = search needs
+
+array-share-prefix-out : tie.Need-array-share-prefix-out
+array-share-prefix-out c = printed (c .before) .0
+
+slice-aggregate-write-all : tie.Need-slice-aggregate-write-all
+slice-aggregate-write-all c = printed (c .before .before) .1
+
+write-all-requires : tie.Need-write-all-requires
+write-all-requires c κs = search needs
+
+slice-aggregate-write-all-2 : tie.Need-slice-aggregate-write-all-2
+slice-aggregate-write-all-2 c = search needs
+
+write-all-requires-2 : tie.Need-write-all-requires-2
+write-all-requires-2 c κs = search needs
+
+returns : tie.Need-returns
+returns c = search needs
+
+returns-2 : tie.Need-returns-2
+returns-2 c = search needs
+
+pub print-output-spec : {M : Type 1} → statement M
+print-output-spec =
+    tie.close
+    (tie.spec
+    slice-aggregate-print-schedule
+    print-schedule-requires
+    array-share-prefix-out
+    slice-aggregate-write-all
+    write-all-requires
+    slice-aggregate-write-all-2
+    write-all-requires-2
+    returns
+    returns-2)

@@ -1,0 +1,23 @@
+-- A row of vectors as bytes.
+use Prim.Native.Nat.{ℕ, _+_, _/_, _%_}
+use mathlib.Core.List.{List, [], _∷_, _++_}
+use lib.ListN.{length}
+use Rattle.printing.specs.Printing.{outputOf}
+use Rattle.vectors.specs.Vectors.{sameBytes, one}
+
+pub record Vector : Type 0 where
+  pub schedule : List ℕ
+  pub text : List ℕ
+
+-- a part after its length, low byte first (two bytes hold a length below 65,536)
+unfoldable pub partBytes : List ℕ → List ℕ
+partBytes t = (length t % 256) ∷ ((length t / 256) ∷ t)
+
+unfoldable pub rowOf : List Vector → List ℕ
+rowOf [] = []
+rowOf (x ∷ xs) = partBytes (x .schedule) ++ (partBytes (x .text) ++ rowOf xs)
+
+-- how many have as their text what is printed for their schedule
+unfoldable pub agreeing : List Vector → ℕ
+agreeing [] = 0
+agreeing (x ∷ xs) = one (sameBytes (outputOf (x .schedule)) (x .text)) + agreeing xs
