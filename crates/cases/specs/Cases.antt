@@ -15,8 +15,7 @@ use Rattle.deflection.specs.Steps.{spanDivisor}
 use Rattle.stability.specs.Steps.{stability}
 use Rattle.ratio.specs.declared.Utilization.{Utilization}
 use Rattle.ratio.specs.Ratio.{nought, noRatio, four}
-use Rattle.governing.specs.Governing.{double, governingOf}
-use Rattle.governing.specs.Governing as governing
+use Rattle.governing.specs.Governing.{double, none, governingOf}
 use Rattle.utilization.specs.Utilized.{valuesGiven, valuesRefused}
 use Rattle.reading.specs.Reading.{got, no, refusal}
 use Rattle.schedule.specs.Schedule.{schedule}
@@ -130,7 +129,7 @@ pub record Table : Type 0 where
   pub schedule-read : schedule (scheduleBytes 1) ≡ got (beam₁ 200 120000 ∷ column₂ 4000 2500000 ∷ mesh₃ 270 350 ∷ [])
   pub schedule-printed : outputOf (scheduleBytes 1) ≡ printed
   pub steel-three : outputOf (scheduleBytes 3) ≡ bytes "refused 7 member 2\n"
-  pub none : outputOf (0 ∷ []) ≡ bytes "members 0\n"
+  pub no-members : outputOf (0 ∷ []) ≡ bytes "members 0\n"
   pub empty-file : outputOf [] ≡ bytes "refused 2 member 0\n"
   pub all-ones : outputOf (255 ∷ 255 ∷ 255 ∷ 255 ∷ 255 ∷ 255 ∷ []) ≡ bytes "refused 3 member 0\n"
   pub five-hundred : outputOf (244 ∷ 3 ∷ []) ≡ bytes "refused 2 member 1\n"
@@ -185,4 +184,4 @@ pub record Table : Type 0 where
   -- the moment governs the beam, the lap the mesh
   pub governs-1 : governingOf ofBeam ≡ double (ofBeam .first)
   pub governs-3 : governingOf ofMesh ≡ double (ofMesh .second)
-  pub governs-none : governingOf ofNone ≡ governing.none
+  pub governs-none : governingOf ofNone ≡ none

@@ -1,4 +1,4 @@
--- The three members of document 01's printed schedule: by their fields, as a caller builds them, and as a schedule's bytes.
+-- The three members of document 01's printed schedule: by their fields, as a caller builds them, and as a schedule's bytes; and three whose fields are numbered, to show which stands where.
 use Prim.Native.Nat.{ℕ, _-_}
 use mathlib.Core.List.{List, [], _∷_, _++_}
 use lib.ListN.{length, replicate}

@@ -18,9 +18,9 @@ pub data DoubleOrNone : Type 0 where
   double : Float → DoubleOrNone
   none : DoubleOrNone
 
-abbrev pub valueOf : Governing → DoubleOrNone
-valueOf (Largest x) = double x
-valueOf None = none
+abbrev pub governingValue : Governing → DoubleOrNone
+governingValue (Largest x) = double x
+governingValue None = none
 
 -- ---- The definition.
 

@@ -1,6 +1,6 @@
 // The governing utilization.
 ghost use mathlib.Core.Path.{_≡_};
-ghost use Rattle.governing.specs.Governing.{valueOf, including, Governs};
+ghost use Rattle.governing.specs.Governing.{governingValue, including, Governs};
 use ratio::Utilization;
 
 pub enum Governing {
@@ -12,7 +12,7 @@ pub enum Governing {
 
 // One more, which counts where it was reached.
 fn include(g: Governing, reached: bool, value: f64) -> Governing
-    ensures { λ r. ⌜ valueOf r ≡ including (valueOf g) reached value ⌝ }
+    ensures { λ r. ⌜ governingValue r ≡ including (governingValue g) reached value ⌝ }
 {
     if reached {
         match g {
@@ -32,7 +32,7 @@ fn include(g: Governing, reached: bool, value: f64) -> Governing
 
 // The largest of the utilizations that were reached, or none.
 pub fn governing_of(u: Utilization) -> Governing
-    ensures { λ r. ⌜ Governs u (valueOf r) ⌝ }
+    ensures { λ r. ⌜ Governs u (governingValue r) ⌝ }
 {
     let a = include(Governing::None, u.firstReached, u.first);
     let b = include(a, u.secondReached, u.second);

@@ -15,7 +15,7 @@ use Rattle.question.specs.declared.Question.the-variants.{Mark, Kind, Field}
 use Rattle.bars.specs.declared.Group.{Group}
 use Rattle.member.specs.Member.{beam, column, mesh}
 use Rattle.domain.specs.declared.Domain.{Domain}
-use Rattle.domain.specs.declared.Domain.the-variants.{Range}
+use Rattle.domain.specs.declared.Domain.the-variants.{Range, GroupDiameter, GroupBars}
 use Rattle.domain.specs.Domain.{groupDiameter, groupBars, holds, asked, fieldHolds}
 use Rattle.domain.proofs.Between.{in-between}
 use Rattle.field.specs.Fields.{groups, beamFields, columnFields, meshFields, fieldsOf, known}
@@ -63,32 +63,33 @@ at-most-four : (fs : List Domain) (lo k : ℕ) (v : List ℕ) → fieldsHold fs 
 unfolding fieldHolds asked holds
 at-most-four fs lo k v e h d = in-between {lo = lo} {hi = 4} {x = given v k} (rw d at (hold-at fs v e k h)) .1
 
--- one group's two fields, asked where its place is below the count n
-abbrev asks : ℕ → ℕ → Group → Bool → Bool
-asks n place g next = (if ltb place n then groupDiameter (g .diameter) else true) && ((if ltb place n then groupBars (g .bars) else true) && next)
+-- one group's two fields, of the list whose count n stands in slot k, asked where its place is below the count
+abbrev asks : ℕ → ℕ → ℕ → Group → Bool → Bool
+asks k n place g next = (if ltb place n then holds (GroupDiameter k place) (g .diameter) else true) && ((if ltb place n then holds (GroupBars k place) (g .bars) else true) && next)
 
 none-hold : (n : ℕ) → groupsHold (take n []) ≡ true
 none-hold zero = refl
 none-hold (suc n) = refl
 
 -- a group that is asked
-named : (n place : ℕ) (g : Group) {next next′ : Bool} → ltb place n ≡ true → next ≡ next′ → asks n place g next ≡ (groupHolds g && next′)
-named n place g e f = rw (e, f) (sym (and-assoc (groupDiameter (g .diameter)) (groupBars (g .bars)) _))
+named : (k n place : ℕ) (g : Group) {next next′ : Bool} → ltb place n ≡ true → next ≡ next′ → asks k n place g next ≡ (groupHolds g && next′)
+unfolding holds
+named k n place g e f = rw (e, f) (sym (and-assoc (groupDiameter (g .diameter)) (groupBars (g .bars)) _))
 
 -- the fields of a list of groups hold where the groups that its count names do
-groups-hold : (n : ℕ) (a b c d : Group) → asks n 0 a (asks n 1 b (asks n 2 c (asks n 3 d true))) ≡ groupsHold (take n (a ∷ b ∷ c ∷ d ∷ []))
-groups-hold zero a b c d = refl
-groups-hold (suc zero) a b c d = named 1 0 a refl refl
-groups-hold (suc (suc zero)) a b c d = named 2 0 a refl (named 2 1 b refl refl)
-groups-hold (suc (suc (suc zero))) a b c d = named 3 0 a refl (named 3 1 b refl (named 3 2 c refl refl))
-groups-hold (suc (suc (suc (suc n)))) a b c d =
+groups-hold : (k n : ℕ) (a b c d : Group) → asks k n 0 a (asks k n 1 b (asks k n 2 c (asks k n 3 d true))) ≡ groupsHold (take n (a ∷ b ∷ c ∷ d ∷ []))
+groups-hold k zero a b c d = refl
+groups-hold k (suc zero) a b c d = named k 1 0 a refl refl
+groups-hold k (suc (suc zero)) a b c d = named k 2 0 a refl (named k 2 1 b refl refl)
+groups-hold k (suc (suc (suc zero))) a b c d = named k 3 0 a refl (named k 3 1 b refl (named k 3 2 c refl refl))
+groups-hold k (suc (suc (suc (suc n)))) a b c d =
     let m = suc (suc (suc (suc n))) in
-    named m 0 a (lt-ltb 0 m (omega arith)) (named m 1 b (lt-ltb 1 m (omega arith)) (named m 2 c (lt-ltb 2 m (omega arith)) (named m 3 d (lt-ltb 3 m (omega arith)) (sym (none-hold n)))))
+    named k m 0 a (lt-ltb 0 m (omega arith)) (named k m 1 b (lt-ltb 1 m (omega arith)) (named k m 2 c (lt-ltb 2 m (omega arith)) (named k m 3 d (lt-ltb 3 m (omega arith)) (sym (none-hold n)))))
 
 -- the fields of the groups that a count n names in a list, copied out, hold where the list's do
-list-holds : (n : ℕ) (list : List Group) → n ≤ 4
-    → asks n 0 (getD (take n list) 0 noGroup) (asks n 1 (getD (take n list) 1 noGroup) (asks n 2 (getD (take n list) 2 noGroup) (asks n 3 (getD (take n list) 3 noGroup) true))) ≡ namedHold n list
-list-holds n list h = groups-hold n (getD (take n list) 0 noGroup) (getD (take n list) 1 noGroup) (getD (take n list) 2 noGroup) (getD (take n list) 3 noGroup) ∙ named-hold n list h
+list-holds : (k n : ℕ) (list : List Group) → n ≤ 4
+    → asks k n 0 (getD (take n list) 0 noGroup) (asks k n 1 (getD (take n list) 1 noGroup) (asks k n 2 (getD (take n list) 2 noGroup) (asks k n 3 (getD (take n list) 3 noGroup) true))) ≡ namedHold n list
+list-holds k n list h = groups-hold k n (getD (take n list) 0 noGroup) (getD (take n list) 1 noGroup) (getD (take n list) 2 noGroup) (getD (take n list) 3 noGroup) ∙ named-hold n list h
 
 none-named : (list : List Group) → namedHold 0 list ≡ true
 unfolding namedHold
@@ -114,22 +115,22 @@ module _ (v : List ℕ) (first second : List Group) where
   column-most p = at-most-four (take 5 columnFields) 1 4 v p (ltb→lt 4 5 tt) refl
 
   beam-holds : fieldsHold beamFields 0 beam-slots ≡ (fieldsHold (ungrouped beamFields) 0 v && (namedHold (given v 8) first && namedHold (given v 9) second))
-  unfolding fieldHolds asked holds beam-slots
+  unfolding fieldHolds asked beam-slots
   beam-holds =
       fields-split (take 9 beamFields) (drop 9 beamFields) 0 beam-slots
       ∙ where-first (fieldsHold (take 9 beamFields) 0 v)
-      (λ p. fields-split (groups 8) (drop 17 beamFields) 9 beam-slots ∙ ap₂ _&&_ (list-holds (given v 8) first (tension-most p))
+      (λ p. fields-split (groups 8) (drop 17 beamFields) 9 beam-slots ∙ ap₂ _&&_ (list-holds 8 (given v 8) first (tension-most p))
       (where-first (holds (Range 0 4) (given v 9))
-      (λ q. fields-split (groups 17) (drop 26 beamFields) 18 beam-slots ∙ ap (λ (b : Bool). b && fieldsHold (drop 26 beamFields) 10 v) (list-holds (given v 9) second (compression-most q)))))
+      (λ q. fields-split (groups 17) (drop 26 beamFields) 18 beam-slots ∙ ap (λ (b : Bool). b && fieldsHold (drop 26 beamFields) 10 v) (list-holds 17 (given v 9) second (compression-most q)))))
       ∙ groups-last (fieldsHold (take 9 beamFields) 0 v) (namedHold (given v 8) first) (holds (Range 0 4) (given v 9)) (namedHold (given v 9) second) (fieldsHold (drop 26 beamFields) 10 v)
       ∙ ap (λ (b : Bool). b && (namedHold (given v 8) first && namedHold (given v 9) second)) (sym (fields-split (take 9 beamFields) (drop 9 (ungrouped beamFields)) 0 v))
 
   column-holds : fieldsHold columnFields 0 column-slots ≡ (fieldsHold (ungrouped columnFields) 0 v && (namedHold (given v 4) first && namedHold 0 second))
-  unfolding fieldHolds asked holds column-slots
+  unfolding fieldHolds asked column-slots
   column-holds =
       fields-split (take 5 columnFields) (drop 5 columnFields) 0 column-slots
       ∙ where-first (fieldsHold (take 5 columnFields) 0 v)
-      (λ p. fields-split (groups 4) (drop 13 columnFields) 5 column-slots ∙ ap (λ (b : Bool). b && fieldsHold (drop 13 columnFields) 5 v) (list-holds (given v 4) first (column-most p)))
+      (λ p. fields-split (groups 4) (drop 13 columnFields) 5 column-slots ∙ ap (λ (b : Bool). b && fieldsHold (drop 13 columnFields) 5 v) (list-holds 4 (given v 4) first (column-most p)))
       ∙ group-last (fieldsHold (take 5 columnFields) 0 v) (namedHold (given v 4) first) (fieldsHold (drop 13 columnFields) 5 v)
       ∙ ap₂ (λ (b c : Bool). b && (namedHold (given v 4) first && c)) (sym (fields-split (take 5 columnFields) (drop 5 (ungrouped columnFields)) 0 v)) (sym (none-named second))
 

@@ -1,5 +1,5 @@
--- A member that a caller built: its mark, its kind, the fields of its kind in the order of document 01 without the groups, and its groups of bars,
--- lent beside it as two lists of records: tension and compression of a beam; of a column the first alone; of a mesh none.
+-- A member that a caller built, its groups of bars lent beside it as lists of records.
+-- It is its mark, its kind, and the fields of its kind in the order of document 01 without the groups; the lists are tension and compression of a beam, the first alone of a column, none of a mesh.
 use Prim.Native.Nat.{ℕ}
 use mathlib.Core.Bool.{Bool, true, false, _&&_}
 use mathlib.Core.List.{List, [], _∷_}

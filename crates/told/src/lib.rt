@@ -1,7 +1,7 @@
 // Answers as records of numbers, for callers in C and Rust: the question that was answered no, or 0.
 ghost use mathlib.Core.Path.{_≡_};
 ghost use Rattle.printed.specs.Printed.{numbersOf};
-ghost use Rattle.governing.specs.Governing.{valueOf};
+ghost use Rattle.governing.specs.Governing.{governingValue};
 ghost use Rattle.utilization.specs.Utilized.{valuesOf, valuesGiven, valuesRefused};
 ghost use Rattle.told.specs.Told.{told};
 ghost use Rattle.told.specs.Utilization.{withGoverning, utilizationTold};
@@ -54,7 +54,7 @@ pub struct UtilizationTold {
 }
 
 fn with_governing(u: Utilization, g: Governing) -> UtilizationTold
-    ensures { λ r. ⌜ r ≡ withGoverning (valuesGiven u) (valueOf g) ⌝ }
+    ensures { λ r. ⌜ r ≡ withGoverning (valuesGiven u) (governingValue g) ⌝ }
 {
     match g {
         Governing::Largest(x) => UtilizationTold {

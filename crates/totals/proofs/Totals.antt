@@ -7,14 +7,14 @@ use native.Mathlib.Nat.{not-suc-le-zero, le-of-suc-le-suc}
 use native.Mathlib.Numerals.{add-one}
 use lib.Dec.{leb}
 use lib.ListN.{length, getD, take}
-use borrow.Author.Tests.{leb-true}
+use borrow.Author.Tests.{leb-true, le-leb}
 use Rattle.quantity.specs.Choice.{if_then_else_}
 use Rattle.quantity.proofs.Choice.{and-true, and-assoc}
 use Rattle.bars.specs.declared.Group.{Group}
 use Rattle.lists.specs.Lists.{groupHolds, groupsHold, namedHold}
 use Rattle.lists.specs.Copied.{noGroup, four}
 use Rattle.lists.proofs.Named.{named-groups, named-hold}
-use Rattle.totals.specs.Totals.{totalsGiven, totalsRefused, barTotals, copiedTotals}
+use Rattle.totals.specs.Totals.{totalsGiven, totalsRefused, barTotals}
 
 -- one group more
 pub hold-more : (gs : List Group) (i : ℕ) → i < length gs → (groupsHold (take i gs) && groupHolds (getD gs i noGroup)) ≡ groupsHold (take (i + 1) gs)
@@ -25,8 +25,13 @@ hold-more gs i l = rw add-one (go gs i l)
     go (g ∷ gs) zero l = sym (and-true (groupHolds g))
     go (g ∷ gs) (suc i) l = and-assoc (groupHolds g) _ _ ∙ ap (λ (b : Bool). groupHolds g && b) (go gs i (le-of-suc-le-suc l))
 
-pub copied-totals : (n : ℕ) (list : List Group) {gs : List Group} → gs ≡ four (take n list) → copiedTotals n gs ≡ barTotals n list
-unfolding copiedTotals barTotals
+-- of four groups, no count up to 4 is above their number
+pub four-hold : (n : ℕ) (gs : List Group) → length gs ≡ 4 → n ≤ 4 → namedHold n gs ≡ groupsHold (take n gs)
+unfolding namedHold
+four-hold n gs e h = rw (e, le-leb n 4 h)
+
+pub copied-totals : (n : ℕ) (list : List Group) {gs : List Group} → gs ≡ four (take n list) → barTotals n gs ≡ barTotals n list
+unfolding barTotals
 copied-totals n list e = rw e (of-count (leb n 4) refl)
   where
     of-groups : n ≤ 4 → (b : Bool) → namedHold n list ≡ b
@@ -35,7 +40,7 @@ copied-totals n list e = rw e (of-count (leb n 4) refl)
     of-groups h false k = refl
 
     of-count : (b : Bool) → leb n 4 ≡ b
-        → (if b && groupsHold (take n (four (take n list))) then totalsGiven (take n (four (take n list))) else totalsRefused)
+        → (if b && namedHold n (four (take n list)) then totalsGiven (take n (four (take n list))) else totalsRefused)
         ≡ (if b && namedHold n list then totalsGiven (take n list) else totalsRefused)
-    of-count true k = let h = leb-true n 4 k in rw (named-hold n list h) (of-groups h (namedHold n list) refl)
+    of-count true k = let h = leb-true n 4 k in rw (four-hold n (four (take n list)) refl h, named-hold n list h) (of-groups h (namedHold n list) refl)
     of-count false k = refl

@@ -9,7 +9,7 @@ use Rattle.question.specs.declared.Question.the-variants.{Field}
 use Rattle.question.specs.Question.{numberOf}
 use Rattle.bars.specs.declared.Group.{Group}
 use Rattle.bars.specs.Sums.{barCount, area, sumD, sumE}
-use Rattle.lists.specs.Lists.{groupsHold, namedHold}
+use Rattle.lists.specs.Lists.{namedHold}
 use Rattle.totals.specs.declared.BarTotals.{BarTotals}
 
 -- question 0: number of bars; area in tenths of mm²; D, the sum of n·d, and E, the sum of n·d²
@@ -23,7 +23,3 @@ totalsRefused = record { question = numberOf Field; member = 1; bars = 0; area =
 -- as of a member: up to four groups, each in range, and no count above the length of its list
 unfoldable pub barTotals : ℕ → List Group → BarTotals
 barTotals count list = if leb count 4 && namedHold count list then totalsGiven (take count list) else totalsRefused
-
--- the same of groups that were copied out
-unfoldable pub copiedTotals : ℕ → List Group → BarTotals
-copiedTotals count gs = if leb count 4 && groupsHold (take count gs) then totalsGiven (take count gs) else totalsRefused

@@ -4,7 +4,7 @@ ghost use mathlib.Core.Bool.{true};
 ghost use Prim.Native.Nat.{_≤_};
 ghost use lib.ListN.{take};
 ghost use Rattle.lists.specs.Lists.{groupHolds, groupsHold};
-ghost use Rattle.totals.specs.Totals.{totalsGiven, totalsRefused, copiedTotals};
+ghost use Rattle.totals.specs.Totals.{totalsGiven, totalsRefused, barTotals};
 use bars::Group;
 use bars::totals_of;
 use domain::is_group_bars;
@@ -75,7 +75,7 @@ fn totals_refused() -> BarTotals
 
 // The totals of the first `count` groups, copied out of a list.
 pub fn copied_totals(groups: [Group; 4], count: usize) -> BarTotals
-    ensures { λ r. ⌜ r ≡ copiedTotals count groups ⌝ }
+    ensures { λ r. ⌜ r ≡ barTotals count groups ⌝ }
 {
     if count <= 4 {
         if groups_hold(groups, count) {

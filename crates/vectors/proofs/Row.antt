@@ -7,7 +7,7 @@ use borrow.Author.Tests.{lt-ltb, le-ltb}
 use lib.ListN.{length, drop, length-append}
 use lib.Seq.{getD-append-seam, getD-append-add, drop-append-add, take-append-seam}
 use Rattle.printing.specs.Printing.{outputOf}
-use Rattle.vectors.specs.Vectors.{sameBytes, lengthAt, partAt, partEnd, vectorEnd, equalAt, one, startsFrom, starts, equalOf, tally, tallyOf}
+use Rattle.vectors.specs.Vectors.{sameBytes, lengthAt, partAt, partEnd, vectorEnd, equalAt, oneIf, startsFrom, starts, equalOf, tally, tallyOf}
 use Rattle.vectors.specs.Row.{Vector, partBytes, rowOf, agreeing}
 use Rattle.vectors.proofs.Walk.{whole}
 
@@ -129,7 +129,7 @@ nothing : tallyOf [] ≡ tally 0 0
 unfolding tallyOf starts startsFrom equalOf
 nothing = refl
 
--- a length of one byte; a schedule cut; a text cut
+-- a length of oneIf byte; a schedule cut; a text cut
 length-cut : tallyOf (1 ∷ []) ≡ tally 1 0
 unfolding tallyOf starts startsFrom equalOf equalAt partEnd lengthAt
 length-cut = refl

@@ -9,7 +9,7 @@ use lib.Dec.{ltb}
 use lib.ListN.{length, take, drop}
 use Rattle.printing.specs.Printing.{outputOf}
 use Rattle.vectors.specs.declared.Tally.{Tally}
-use Rattle.vectors.specs.Vectors.{sameBytes, lengthAt, partAt, partEnd, vectorEnd, equalAt, one, startsFrom, starts, equalOf, tally, rowTally, tallyOf}
+use Rattle.vectors.specs.Vectors.{sameBytes, lengthAt, partAt, partEnd, vectorEnd, equalAt, oneIf, startsFrom, starts, equalOf, tally, rowTally, tallyOf}
 
 -- ---- One vector.
 
@@ -41,7 +41,7 @@ pub all-left : (s : List ℕ) → left s 0 0 ≡ starts s
 unfolding starts
 all-left s = let e : length s - 0 ≡ length s = omega arith in rw e
 
-pub one-most : (b : Bool) → one b ≤ 1
+pub one-most : (b : Bool) → oneIf b ≤ 1
 one-most true = omega arith
 one-most false = omega arith
 
@@ -57,7 +57,7 @@ module _ (s : List ℕ) (v p : ℕ) where
     pub one-vector : length (left s v p) ≡ 1 + length (left s (v + 1) q)
     one-vector = ap length turn ∙ omega arith
 
-    pub one-equal : equalOf s (left s v p) ≡ one (equalAt s p) + equalOf s (left s (v + 1) q)
+    pub one-equal : equalOf s (left s v p) ≡ oneIf (equalAt s p) + equalOf s (left s (v + 1) q)
     unfolding equalOf
     one-equal = ap (equalOf s) turn
 
@@ -75,6 +75,6 @@ module _ (s : List ℕ) (v p : ℕ) where
 
 -- ---- The input, of n bytes.
 
-pub tally-is : (s : List ℕ) (t : Tally) (m n : ℕ) → t ≡ rowTally s → n ≡ length s → m ≡ one (ltb 200000 n) → tally (t .vectors + m) (t .equal) ≡ tallyOf s
+pub tally-is : (s : List ℕ) (t : Tally) (m n : ℕ) → t ≡ rowTally s → n ≡ length s → m ≡ oneIf (ltb 200000 n) → tally (t .vectors + m) (t .equal) ≡ tallyOf s
 unfolding tallyOf
 tally-is s t m n a c d = rw (a, d, c)

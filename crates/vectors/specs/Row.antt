@@ -3,7 +3,7 @@ use Prim.Native.Nat.{ℕ, _+_, _/_, _%_}
 use mathlib.Core.List.{List, [], _∷_, _++_}
 use lib.ListN.{length}
 use Rattle.printing.specs.Printing.{outputOf}
-use Rattle.vectors.specs.Vectors.{sameBytes, one}
+use Rattle.vectors.specs.Vectors.{sameBytes, oneIf}
 
 pub record Vector : Type 0 where
   pub schedule : List ℕ
@@ -20,4 +20,4 @@ rowOf (x ∷ xs) = partBytes (x .schedule) ++ (partBytes (x .text) ++ rowOf xs)
 -- how many have as their text what is printed for their schedule
 unfoldable pub agreeing : List Vector → ℕ
 agreeing [] = 0
-agreeing (x ∷ xs) = one (sameBytes (outputOf (x .schedule)) (x .text)) + agreeing xs
+agreeing (x ∷ xs) = oneIf (sameBytes (outputOf (x .schedule)) (x .text)) + agreeing xs

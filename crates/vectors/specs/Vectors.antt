@@ -40,10 +40,10 @@ equalAt s p = leb (vectorEnd s p) (length s) && sameBytes (outputOf (partAt s p)
 
 -- ---- All vectors.
 
-abbrev pub one : Bool → ℕ
-one b = if b then 1 else 0
+abbrev pub oneIf : Bool → ℕ
+oneIf b = if b then 1 else 0
 
--- where the vectors from p on begin: each begins where the one before ends, until the input ends; at most `most` of them
+-- where the vectors from p on begin: each begins where the oneIf before ends, until the input ends; at most `most` of them
 unfoldable pub startsFrom : ℕ → List ℕ → ℕ → List ℕ
 startsFrom zero s p = []
 startsFrom (suc most) s p = if ltb p (length s) then p ∷ startsFrom most s (vectorEnd s p) else []
@@ -55,7 +55,7 @@ starts s = startsFrom (length s) s 0
 -- how many of the vectors that begin there are equal
 unfoldable pub equalOf : List ℕ → List ℕ → ℕ
 equalOf s [] = 0
-equalOf s (p ∷ ps) = one (equalAt s p) + equalOf s ps
+equalOf s (p ∷ ps) = oneIf (equalAt s p) + equalOf s ps
 
 abbrev pub tally : ℕ → ℕ → Tally
 tally vectors equal = record { vectors = vectors; equal = equal }
@@ -65,4 +65,4 @@ rowTally s = tally (length (starts s)) (equalOf s (starts s))
 
 -- of an input: what is past the 200,000th byte counts as one vector more, which is not equal
 unfoldable pub tallyOf : List ℕ → Tally
-tallyOf s = tally (rowTally s .vectors + one (ltb 200000 (length s))) (rowTally s .equal)
+tallyOf s = tally (rowTally s .vectors + oneIf (ltb 200000 (length s))) (rowTally s .equal)

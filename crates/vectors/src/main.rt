@@ -6,7 +6,7 @@ ghost use mathlib.Core.Path.{_≡_};
 ghost use Prim.Native.Nat.{_+_, _≤_, _<_};
 ghost use lib.ListN.{length, getD, take};
 ghost use Rattle.printing.specs.Printing.{outputOf};
-ghost use Rattle.vectors.specs.Vectors.{sameBytes, lengthAt, partEnd, equalAt, one, rowTally, tallyOf};
+ghost use Rattle.vectors.specs.Vectors.{sameBytes, lengthAt, partEnd, equalAt, oneIf, rowTally, tallyOf};
 use printing::print_schedule;
 
 struct Tally {
@@ -15,7 +15,7 @@ struct Tally {
 }
 
 fn one_if(b: bool) -> u64
-    ensures { λ r. ⌜ r ≡ one b ⌝ }
+    ensures { λ r. ⌜ r ≡ oneIf b ⌝ }
 {
     if b { 1 } else { 0 }
 }
@@ -108,7 +108,7 @@ fn row_tally(src: &[u8]) -> Tally
     }
 }
 
-// The tally of the first n bytes of `all`, which has room for one byte more than an input may have, so that a longer one is seen.
+// The tally of the first n bytes of `all`, which has room for oneIf byte more than an input may have, so that a longer one is seen.
 fn input_tally(all: &[u8], n: usize) -> Tally
     requires { ⌜ (n ≤ length (now all)) × (length (now all) ≡ 200001) ⌝ }
     ensures { λ r. ⌜ r ≡ tallyOf (take n (now (all .entry))) ⌝ }

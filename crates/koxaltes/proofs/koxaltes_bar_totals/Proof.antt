@@ -43,7 +43,7 @@ use Rattle.lists.proofs.first_groups.Symbol as copied-def
 use Rattle.lists.proofs.first_groups.Symbol.{name as #lists·first-groups}
 use Rattle.lists.proofs.first_groups.Met as copied-thm
 use Rattle.totals.specs.declared.BarTotals.{BarTotals}
-use Rattle.totals.specs.Totals.{barTotals, copiedTotals}
+use Rattle.totals.specs.Totals.{barTotals}
 use Rattle.totals.proofs.Totals.{copied-totals}
 use Rattle.totals.proofs.BarTotals as R
 use Rattle.totals.proofs.BarTotals.Laws as R′
@@ -86,8 +86,8 @@ module _ {M : Type 1} (𝓤 : URA M) (H : Heap 𝓤) (A : Atoms 𝓤) (W : Given
       qed W [] ∵ nothing ! $ owned ! usize (Is usize) (uint-makes 𝓤 H A W w64) n _ (refl, fits) $ fjoin ! $
       owned ! Four (Is Four) (array-makes 𝓤 H A W G.the-row (LL.makes G.the-type G′.the-plain 𝓤 H A) 4) gs (u ∷ []) is $ fjoin ! $ nothing ! $ join ! $ frame ! $ done !
 
-  inner-said : (gs : List Group) (r : BarTotals) → ent 𝓤 (ensured 𝓤 H A inner.ended (inner.clauses 𝓤 H A mem run) tt (gs, (n, tt)) tt r) (fact 𝓤 (r ≡ copiedTotals n gs))
-  inner-said gs r = exE 𝓤 _ (λ ws. snd∗ 𝓤 (sem 𝓤 H A (lasts inner.ended tt (gs, (n, tt)) ws)) (fact 𝓤 (r ≡ copiedTotals n gs)))
+  inner-said : (gs : List Group) (r : BarTotals) → ent 𝓤 (ensured 𝓤 H A inner.ended (inner.clauses 𝓤 H A mem run) tt (gs, (n, tt)) tt r) (fact 𝓤 (r ≡ barTotals n gs))
+  inner-said gs r = exE 𝓤 _ (λ ws. snd∗ 𝓤 (sem 𝓤 H A (lasts inner.ended tt (gs, (n, tt)) ws)) (fact 𝓤 (r ≡ barTotals n gs)))
 
   exits : (r : BarTotals) (u : Val) → r ≡ barTotals n (now s) → ent 𝓤 (⋆ 𝓤 H A (‵ (R.the-row .own r (u ∷ [])) ∷ (‵ (flft κ q) ⊛ ‵ ftrue) ∷ ‵ Own ∷ [])) (Post u)
   exits r u e =
@@ -108,7 +108,7 @@ module _ {M : Type 1} (𝓤 : URA M) (H : Heap 𝓤) (A : Atoms 𝓤) (W : Given
         use0 W (raw (Inner 𝓤 H A mem run .pre (to-inner gs u))) (goes-inner gs u is) $
         calls-at ! fm (Inner 𝓤 H A mem run) known-inner (to-inner gs u) (and-then ! (load ! (from ! (stop !)) (look ! 3 refl)) (and-then ! (load ! (from ! (stop !)) (look ! 5 refl)) (no-more !))) (λ u′.
         use1 W (later (some (λ (r : BarTotals). (‵ ftrue ⊛ ‵ (R.the-row .own r (u′ ∷ []))) ⊛ raw (ensured 𝓤 H A inner.ended (inner.clauses 𝓤 H A mem run) tt (gs, (n, tt)) tt r)))) (id⊢ 𝓤 _) $ await ! tt $ pick ! (λ r.
-        split ! $ move ! (1 ∷ []) $ use1 W (raw (fact 𝓤 (r ≡ copiedTotals n gs))) (inner-said gs r) $ heard ! (r ≡ copiedTotals n gs) (λ e′. split ! $ drop ! $
+        split ! $ move ! (1 ∷ []) $ use1 W (raw (fact 𝓤 (r ≡ barTotals n gs))) (inner-said gs r) $ heard ! (r ≡ barTotals n gs) (λ e′. split ! $ drop ! $
         -- [the result; the token; what s owns; _3; …; _2; …; _1; …; _0; …]
         peeks ! R.the-row (Is R.the-row) (shows 𝓤 H A R.the-row) r (u′ ∷ []) (λ is′. land ! (from ! (stop !)) (init ! 9 refl (LL.lawful R.the-type R′.the-laws 𝓤 H A W .typed r _ is′ .0)) $
         returns ! (look ! 9 refl) $ forget ! 3 refl $ forget ! 5 refl $ forget ! 7 refl $ forget ! 9 refl $

@@ -2,7 +2,10 @@
 use mathlib.Core.Path.{sym, _∙_}
 use borrow.Author.Needs.{needs}
 use borrow.Author.Tests.{le-leb, lt-leb}
-use Rattle.totals.specs.Totals.{copiedTotals}
+use native.Mathlib.Omega.{arith}
+use lib.ListN.{length}
+use Rattle.totals.specs.Totals.{barTotals}
+use Rattle.totals.proofs.Totals.{four-hold}
 use Rattle.totals.proofs.copied_totals.Statement.{statement}
 use Rattle.totals.proofs.copied_totals.Tie as tie
 
@@ -10,19 +13,23 @@ totals-given-requires : tie.Need-totals-given-requires
 totals-given-requires c κs = sym (c .before .groups-hold .ensures) ∙ c .if2 .taken
 
 returns : tie.Need-returns
-unfolding copiedTotals
+unfolding barTotals
 returns c =
     let g = c .before in
-    rw (le-leb _ _ (g .before .before .if1 .taken), sym (g .before .groups-hold .ensures) ∙ g .if2 .taken) (c .totals-given .ensures)
+    let a = g .before .before in
+    let k = four-hold (a .before .args .count) (a .before .args .groups) (search needs) (a .if1 .taken) in
+    rw (le-leb _ _ (a .if1 .taken), k, sym (g .before .groups-hold .ensures) ∙ g .if2 .taken) (c .totals-given .ensures)
 
 returns-2 : tie.Need-returns-2
-unfolding copiedTotals
+unfolding barTotals
 returns-2 c =
     let g = c .before in
-    rw (le-leb _ _ (g .before .before .if1 .taken), sym (g .before .groups-hold .ensures) ∙ g .if2 .left) (c .totals-refused .ensures)
+    let a = g .before .before in
+    let k = four-hold (a .before .args .count) (a .before .args .groups) (search needs) (a .if1 .taken) in
+    rw (le-leb _ _ (a .if1 .taken), k, sym (g .before .groups-hold .ensures) ∙ g .if2 .left) (c .totals-refused .ensures)
 
 returns-3 : tie.Need-returns-3
-unfolding copiedTotals
+unfolding barTotals
 returns-3 c = rw (lt-leb _ _ (c .before .if1 .left)) (c .totals-refused2 .ensures)
 
 pub copied-totals-spec : {M : Type 1} → statement M

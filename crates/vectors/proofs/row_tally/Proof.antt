@@ -4,7 +4,7 @@ use mathlib.Core.Path.{_≡_, ap, ap₂, _∙_}
 use native.Mathlib.Omega.{arith}
 use lib.ListN.{length}
 use borrow.Author.Needs.{needs}
-use Rattle.vectors.specs.Vectors.{partEnd, equalAt, one, starts, equalOf, tally}
+use Rattle.vectors.specs.Vectors.{partEnd, equalAt, oneIf, starts, equalOf, tally}
 use Rattle.vectors.proofs.Walk.{left, all-left, one-most, one-vector, one-equal, none-left}
 use Rattle.vectors.proofs.row_tally.Statement.{statement}
 use Rattle.vectors.proofs.row_tally.Tie as tie
@@ -52,7 +52,7 @@ loop-again c =
     let l = t .before .loop in
     let s = t .before .before .before .args .src .now in
     let b = o .before .equal-at in
-    let n = o .one-if .ensures ∙ ap one (b .ensures) in
+    let n = o .one-if .ensures ∙ ap oneIf (b .ensures) in
     let f = c .part-end2 .ensures .0 ∙ ap (partEnd s) (c .before .part-end .ensures .0) in
     let v = one-vector s (l .vectors) (l .p) (l .inv .0) (t .loop-test .taken) _ f in
     let e = one-equal s (l .vectors) (l .p) (l .inv .0) (t .loop-test .taken) _ f in
