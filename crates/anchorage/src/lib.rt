@@ -13,7 +13,7 @@ use standard::multiple_of;
 
 // 1.15 for seismic 1 and 2, 1.05 for 3, in hundredths.
 fn seismic_factor(seismic: u32) -> u64
-    ensures { λ r. ⌜ (r ≡ seismicHundredths seismic) × (r ≤ 115) ⌝ }
+    ensures { λ r. ⌜ r ≡ seismicHundredths seismic ⌝ }
 {
     match seismic {
         1 | 2 => 115,
@@ -25,7 +25,7 @@ fn seismic_factor(seismic: u32) -> u64
 // 5.2.5 from the row `cross`, in ten-thousandths of a millimetre.
 pub fn basic_length(x: Mesh, cross: u32, apart: u32) -> u64
     requires { ⌜ (AcceptedMesh (meshOf x)) × (cross ≤ 1) ⌝ }
-    ensures { λ r. ⌜ (r ≡ basicLength cross apart (meshOf x)) × (r ≤ 15456000) ⌝ }
+    ensures { λ r. ⌜ r ≡ basicLength cross apart (meshOf x) ⌝ }
 {
     let multiple = multiple_of(x.family, cross, x.concrete) as u64;
     let paired = chosen(x.paired == 1, 14, 10);

@@ -1,14 +1,13 @@
 -- The clause's axial capacity is that of the steps before it is rounded, for any usable concrete and steel.
 use Prim.Native.Nat.{ℕ, _+_, _-_, _*_, _<_}
-use mathlib.Core.Path.{_≡_}
 use mathlib.Core.Bool.{Bool, true, false}
 use native.Mathlib.Omega.{arith}
 use lib.Dec.{ltb}
-use Rattle.quantity.specs.declared.Stress.{Stress}
 use Rattle.quantity.specs.Choice.{if_then_else_}
 use Rattle.quantity.specs.Fraction.{_//_, whole, _⊕_, _⊖_, _⊗_}
 use Rattle.quantity.specs.Unit.{inUnits, inTenths, exactStress}
 use Rattle.quantity.proofs.Rounding.{expand}
+use Rattle.quantity.proofs.Unit.{exact-units, exact-tenths}
 use Rattle.quantity.proofs.Fraction.{Same, same-refl, same-sym, same-trans, same-sum, same-product}
 use Rattle.material.specs.declared.Concrete.{Concrete}
 use Rattle.material.specs.declared.Steel.{Steel}
@@ -23,14 +22,6 @@ use Rattle.quantity.proofs.Safe.{down-not-above, same-not-above}
 use Rattle.axial.specs.Given.{Given}
 
 -- ---- The squash load.
-
-tenths-same : (s : Stress) → s .0 ≡ 10 * inTenths s → Same (exactStress s) (inTenths s // 10)
-unfolding exactStress
-tenths-same s e = record { pos = omega arith; pos′ = omega arith; same = omega arith }
-
-units-same : (s : Stress) → s .0 ≡ 100 * inUnits s → Same (exactStress s) (whole (inUnits s))
-unfolding exactStress
-units-same s e = record { pos = omega arith; pos′ = omega arith; same = omega arith }
 
 concrete-same : (x : Column) → Same (exactConcreteArea x) (concreteArea (grossArea x) (steelArea x) // 10)
 unfolding exactConcreteArea exactSteelArea concreteArea _⊖_
@@ -49,8 +40,8 @@ squash-same : (x : Column) (concrete : Concrete) (steel : Steel) → UsableConcr
 unfolding squashLoad exactSteelArea
 squash-same x concrete steel c s =
     same-trans
-    (same-sum (same-product (tenths-same (concrete .fc) (c .fc-exact)) (concrete-same x))
-    (same-product (units-same (steel .axial) (s .axial .exact)) (same-refl (steelArea x // 10) (omega arith))))
+    (same-sum (same-product (exact-tenths (concrete .fc) (c .fc-exact)) (concrete-same x))
+    (same-product (exact-units (steel .axial) (s .axial .exact)) (same-refl (steelArea x // 10) (omega arith))))
     (parts-same (inTenths (concrete .fc)) (inUnits (steel .axial)) (steelArea x) (concreteArea (grossArea x) (steelArea x)))
 
 -- ---- The capacity.

@@ -1,2 +1,3 @@
+pub mod Tests
 pub mod Bounds
 pub mod Exact

@@ -50,7 +50,7 @@ pub fn slenderness_fits(x: Column) -> bool
 // The area of the concrete, in tenths of mm².
 fn concrete_area(gross: u64, bars: u64) -> u64
     requires { ⌜ (gross ≤ 2250000) × (2 * bars ≤ gross) ⌝ }
-    ensures { λ r. ⌜ (r ≡ concreteArea gross bars) × (r ≤ 22500000) ⌝ }
+    ensures { λ r. ⌜ r ≡ concreteArea gross bars ⌝ }
 {
     if 3 * gross < 10 * bars {
         10 * gross - bars
@@ -62,7 +62,7 @@ fn concrete_area(gross: u64, bars: u64) -> u64
 // fc·A + fy'·S, in hundredths of N.
 fn squash_load(x: Column, concrete: Concrete, steel: Steel) -> u64
     requires { ⌜ (Given (columnOf x) concrete steel) × (steelFits (columnOf x) ≡ true) ⌝ }
-    ensures { λ r. ⌜ (r ≡ squashLoad (columnOf x) concrete steel) × (r ≤ 13712400000) ⌝ }
+    ensures { λ r. ⌜ r ≡ squashLoad (columnOf x) concrete steel ⌝ }
 {
     let bars = bars_area(x);
     concrete.fc.in_tenths() * concrete_area(gross_area(x), bars)

@@ -1,47 +1,45 @@
 -- Laws of the sums over groups: one group more at the end, and bounds over accepted groups.
-use Prim.Native.Nat.{ℕ, zero, suc, _+_, _*_, _-_, _^_, _≤_, _<_, min, max}
+use Prim.Native.Nat.{ℕ, _+_, _*_, _-_, _^_, _≤_, _<_, min, max}
 use mathlib.Core.Path.{_≡_, refl, sym, _∙_}
-use mathlib.Core.List.{List, [], _∷_}
-use native.Mathlib.Nat.{not-suc-le-zero, le-of-suc-le-suc, lt-of-le-of-lt, mul-le-mul, mul-add, mul-comm, mul-assoc, mul-le-mul-left}
+use mathlib.Core.List.{List, [], _∷_, _++_}
+use native.Mathlib.Nat.{lt-of-le-of-lt, mul-le-mul, mul-add, mul-comm, mul-assoc, mul-le-mul-left}
 use native.Mathlib.Numerals.{add-one}
 use native.Mathlib.Omega.{arith}
 use native.Mathlib.Decide.{decLe}
 use lib.ListN.{length, take, getD, length-take}
-use lib.Seq.{take-take, take-all, getD-take}
+use lib.Seq.{take-suc, take-take, take-all, getD-take}
+use Rattle.quantity.proofs.All.{all-take, all-at}
 use Rattle.standard.proofs.Bars.{area-most}
 use Rattle.bars.specs.declared.Group.{Group}
 use Rattle.bars.specs.declared.Totals.{Totals}
 use Rattle.bars.specs.Sums.{sumOver, barsOf, groupArea, groupDiameters, groupSquares, barCount, area, sumD, sumE, largest, smallest, smallestUpTo, added, TotalsOf, TotalsFit}
 use Rattle.bars.specs.Accepted.{AcceptedGroup, AcceptedGroups}
 
--- ---- One group more.
+-- ---- One group more, at the end.
 
-abbrev pub none : Group
-none = record { diameter = 0; bars = 0 }
+sum-last : (f : Group → ℕ) (gs : List Group) (g : Group) → sumOver f (gs ++ (g ∷ [])) ≡ sumOver f gs + f g
+sum-last f [] g = omega arith
+sum-last f (h ∷ gs) g = rw (sum-last f gs g) (omega arith)
 
-sum-suc : (f : Group → ℕ) (gs : List Group) (i : ℕ) → i < length gs → sumOver f (take (suc i) gs) ≡ sumOver f (take i gs) + f (getD gs i none)
-sum-suc f [] i l = absurd (not-suc-le-zero l)
-sum-suc f (g ∷ gs) zero l = omega arith
-sum-suc f (g ∷ gs) (suc i) l = rw (sum-suc f gs i (le-of-suc-le-suc l)) (omega arith)
+largest-last : (gs : List Group) (g : Group) → largest (gs ++ (g ∷ [])) ≡ max (largest gs) (g .diameter)
+largest-last [] g = omega arith
+largest-last (h ∷ gs) g = rw (largest-last gs g) (omega arith)
 
-pub sum-more : (f : Group → ℕ) (gs : List Group) (i : ℕ) → i < length gs → sumOver f (take (i + 1) gs) ≡ sumOver f (take i gs) + f (getD gs i none)
-sum-more f gs i l = rw add-one (sum-suc f gs i l)
+smallest-last : (n : ℕ) (gs : List Group) (g : Group) → smallestUpTo n (gs ++ (g ∷ [])) ≡ min (smallestUpTo n gs) (g .diameter)
+smallest-last n [] g = omega arith
+smallest-last n (h ∷ gs) g = rw (smallest-last n gs g) (omega arith)
 
-largest-suc : (gs : List Group) (i : ℕ) → i < length gs → largest (take (suc i) gs) ≡ max (largest (take i gs)) (getD gs i none .diameter)
-largest-suc [] i l = absurd (not-suc-le-zero l)
-largest-suc (g ∷ gs) zero l = omega arith
-largest-suc (g ∷ gs) (suc i) l = rw (largest-suc gs i (le-of-suc-le-suc l)) (omega arith)
-
-smallest-suc : (n : ℕ) (gs : List Group) (i : ℕ) → i < length gs → smallestUpTo n (take (suc i) gs) ≡ min (smallestUpTo n (take i gs)) (getD gs i none .diameter)
-smallest-suc n [] i l = absurd (not-suc-le-zero l)
-smallest-suc n (g ∷ gs) zero l = omega arith
-smallest-suc n (g ∷ gs) (suc i) l = rw (smallest-suc n gs i (le-of-suc-le-suc l)) (omega arith)
-
-pub largest-more : (gs : List Group) (i : ℕ) → i < length gs → largest (take (i + 1) gs) ≡ max (largest (take i gs)) (getD gs i none .diameter)
-largest-more gs i l = rw add-one (largest-suc gs i l)
-
-pub smallest-more : (gs : List Group) (i : ℕ) → i < length gs → smallest (take (i + 1) gs) ≡ min (smallest (take i gs)) (getD gs i none .diameter)
-smallest-more gs i l = rw add-one (smallest-suc 50 gs i l)
+totals-last : (gs : List Group) (g : Group) (t : Totals) → TotalsOf gs t → TotalsOf (gs ++ (g ∷ [])) (added t g)
+unfolding barCount area sumD sumE
+totals-last gs g t e =
+    record {
+      n = omega (arith, e .n, sum-last barsOf gs g);
+      S = omega (arith, e .S, sum-last groupArea gs g);
+      D = omega (arith, e .D, sum-last groupDiameters gs g);
+      E = omega (arith, e .E, sum-last groupSquares gs g);
+      largest-is = rw (e .largest-is) (sym (largest-last gs g));
+      smallest-is = rw (e .smallest-is) (sym (smallest-last 50 gs g));
+    }
 
 -- ---- Of one group.
 
@@ -75,11 +73,6 @@ module _ (g : Group) (a : AcceptedGroup g) where
   pub bars-by-area : 1 * g .bars ≤ groupArea g
   unfolding groupArea
   bars-by-area = some-by-bars (g .bars) (a .diameter .listed)
-
-pub accepted-at : (gs : List Group) → AcceptedGroups gs → (i : ℕ) → i < length gs → AcceptedGroup (getD gs i none)
-accepted-at [] a i l = absurd (not-suc-le-zero l)
-accepted-at (g ∷ gs) a zero l = a .0
-accepted-at (g ∷ gs) a (suc i) l = accepted-at gs (a .1) i (le-of-suc-le-suc l)
 
 -- ---- Bounds of sums over accepted groups.
 
@@ -173,33 +166,19 @@ pub totals-none : TotalsOf [] (record { bars = 0; area = 0; diameters = 0; squar
 unfolding barCount area sumD sumE
 totals-none = record { n = refl; S = refl; D = refl; E = refl; largest-is = refl; smallest-is = refl }
 
-pub totals-more : (gs : List Group) (i : ℕ) (t : Totals) → i < length gs → TotalsOf (take i gs) t
-    → TotalsOf (take (i + 1) gs) (added t (getD gs i none))
-unfolding barCount area sumD sumE
-totals-more gs i t l e =
-    record {
-      n = omega (arith, e .n, sum-more barsOf gs i l);
-      S = omega (arith, e .S, sum-more groupArea gs i l);
-      D = omega (arith, e .D, sum-more groupDiameters gs i l);
-      E = omega (arith, e .E, sum-more groupSquares gs i l);
-      largest-is = rw (e .largest-is) (sym (largest-more gs i l));
-      smallest-is = rw (e .smallest-is) (sym (smallest-more gs i l));
-    }
-
-accepted-take : (i : ℕ) (gs : List Group) → AcceptedGroups gs → AcceptedGroups (take i gs)
-accepted-take zero gs a = tt
-accepted-take (suc i) [] a = tt
-accepted-take (suc i) (g ∷ gs) a = (a .0, accepted-take i gs (a .1))
+pub totals-more : (gs : List Group) (i : ℕ) (d : Group) (t : Totals) → i < length gs → TotalsOf (take i gs) t
+    → TotalsOf (take (i + 1) gs) (added t (getD gs i d))
+totals-more gs i d t l e = rw (add-one, take-suc gs i d l) (totals-last (take i gs) (getD gs i d) t e)
 
 -- a turn of the loop: the groups up to i are summed, and there is one more
-module _ (gs : List Group) (count i : ℕ) (four : length gs ≡ 4) (a : AcceptedGroups (take count gs)) where
-  pub turn-requires : (t : Totals) → i < min count 4 → TotalsOf (take i gs) t → TotalsFit t × AcceptedGroup (getD gs i none)
+module _ (gs : List Group) (count i : ℕ) (d : Group) (four : length gs ≡ 4) (a : AcceptedGroups (take count gs)) where
+  pub turn-requires : (t : Totals) → i < min count 4 → TotalsOf (take i gs) t → TotalsFit t × AcceptedGroup (getD gs i d)
   turn-requires t l e =
       let h : i < count = omega arith in
       let le : i ≤ count = omega arith in
-      let front = rw (take-take i count gs le) at (accepted-take i (take count gs) a) in (
+      let front = rw (take-take i count gs le) at (all-take AcceptedGroup i (take count gs) a) in (
         totals-fit (take i gs) t front (simp length-take (omega arith)) e,
-        rw (getD-take count gs i none h) at (accepted-at (take count gs) a i (simp length-take (omega arith))),
+        rw (getD-take count gs i d h) at (all-at AcceptedGroup (take count gs) a i d (λ k. absurd (omega (arith, simp length-take at k)))),
       )
 
 -- after the loop

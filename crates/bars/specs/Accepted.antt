@@ -1,7 +1,8 @@
 -- What the sums may use of groups that passed question 7.
 -- (document 01, "A group is diameter and bar count")
 use Prim.Native.Nat.{ℕ, _≤_, _<_}
-use mathlib.Core.List.{List, [], _∷_}
+use mathlib.Core.List.{List}
+use Rattle.quantity.specs.All.{All}
 use Rattle.standard.specs.Bars.{areaOf}
 use Rattle.bars.specs.declared.Group.{Group}
 
@@ -17,5 +18,4 @@ pub record AcceptedGroup (g : Group) : Type 0 where
   pub most : g .bars ≤ 20
 
 abbrev pub AcceptedGroups : List Group → Type 0
-AcceptedGroups [] = Unit {0}
-AcceptedGroups (g ∷ gs) = AcceptedGroup g × AcceptedGroups gs
+AcceptedGroups gs = All AcceptedGroup gs

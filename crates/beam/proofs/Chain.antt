@@ -6,9 +6,8 @@ use borrow.Author.Tests.{le-leb, lt-leb}
 use Rattle.quantity.specs.Choice.{if_then_else_}
 use Rattle.outcome.specs.declared.Check.{Check}
 use Rattle.outcome.specs.declared.Check.the-variants.{Shear, Bending, ShallowBending}
-use Rattle.outcome.specs.declared.Figure.the-variants.{Reached, Unreached}
 use Rattle.outcome.specs.declared.Outcome.{Outcome}
-use Rattle.outcome.specs.Outcome.{outcome}
+use Rattle.outcome.specs.Outcome.{oneFigure, twoFigures}
 use Rattle.section.specs.declared.Section.{Section}
 use Rattle.section.specs.Section.{M, Vd}
 use Rattle.bending.specs.Steps.{isDeep, bendingCapacity}
@@ -20,7 +19,7 @@ module _ (x : Section) (m v : ℕ) (o : Outcome) (p : v ≡ shearCapacity x) whe
   unfolding fromShear
   shear-holds h e = rw (← p, le-leb (Vd x) v h) e
 
-  pub shear-fails : v < Vd x → o ≡ outcome Shear (Reached m) (Reached v) Unreached Unreached → o ≡ fromShear x m
+  pub shear-fails : v < Vd x → o ≡ twoFigures Shear m v → o ≡ fromShear x m
   unfolding fromShear
   shear-fails h e = rw (← p, lt-leb (Vd x) v h) e
 
@@ -30,6 +29,6 @@ module _ (x : Section) (m : ℕ) (o : Outcome) (p : m ≡ bendingCapacity x) whe
   bending-holds h e = rw (← p, le-leb (M x) m h) e
 
   pub bending-fails : (d : Bool) (k : Check) → m < M x → d ≡ isDeep x → k ≡ (if d then Bending else ShallowBending) →
-      o ≡ outcome k (Reached m) Unreached Unreached Unreached → o ≡ fromBending x
+      o ≡ oneFigure k m → o ≡ fromBending x
   unfolding fromBending
   bending-fails d k h i j e = rw (← p, lt-leb (M x) m h, ← i, ← j) e

@@ -4,9 +4,8 @@ use Prim.Native.Nat.{ℕ}
 use lib.Dec.{leb}
 use Rattle.quantity.specs.Choice.{if_then_else_}
 use Rattle.outcome.specs.declared.Check.the-variants.{LeastSteel, CompressionDepth, Bending, ShallowBending, Shear, LinkSpacing, LeastLinks}
-use Rattle.outcome.specs.declared.Figure.the-variants.{Reached, Unreached}
 use Rattle.outcome.specs.declared.Outcome.{Outcome}
-use Rattle.outcome.specs.Outcome.{outcome, stopped}
+use Rattle.outcome.specs.Outcome.{noFigure, oneFigure, twoFigures}
 use Rattle.member.specs.Member.{Beam}
 use Rattle.section.specs.declared.Section.{Section}
 use Rattle.section.specs.Section.{sectionOf, M, Vd}
@@ -20,31 +19,31 @@ unfoldable pub fromLeastLinks : Section → ℕ → ℕ → Outcome
 fromLeastLinks x moment shear =
     if leastLinks x
     then fromStress x moment shear
-    else outcome LeastLinks (Reached moment) (Reached shear) Unreached Unreached
+    else twoFigures LeastLinks moment shear
 
 unfoldable pub fromSpacing : Section → ℕ → ℕ → Outcome
 fromSpacing x moment shear =
     if linkSpacing x
     then fromLeastLinks x moment shear
-    else outcome LinkSpacing (Reached moment) (Reached shear) Unreached Unreached
+    else twoFigures LinkSpacing moment shear
 
 unfoldable pub fromShear : Section → ℕ → Outcome
 fromShear x moment =
     if leb (Vd x) (shearCapacity x)
     then fromSpacing x moment (shearCapacity x)
-    else outcome Shear (Reached moment) (Reached (shearCapacity x)) Unreached Unreached
+    else twoFigures Shear moment (shearCapacity x)
 
 unfoldable pub fromBending : Section → Outcome
 fromBending x =
     if leb (M x) (bendingCapacity x)
     then fromShear x (bendingCapacity x)
-    else outcome (if isDeep x then Bending else ShallowBending) (Reached (bendingCapacity x)) Unreached Unreached Unreached
+    else oneFigure (if isDeep x then Bending else ShallowBending) (bendingCapacity x)
 
 unfoldable pub fromDepth : Section → Outcome
-fromDepth x = if compressionDepth x then fromBending x else stopped CompressionDepth
+fromDepth x = if compressionDepth x then fromBending x else noFigure CompressionDepth
 
 unfoldable pub sectionOutcome : Section → Outcome
-sectionOutcome x = if leastSteel x then fromDepth x else stopped LeastSteel
+sectionOutcome x = if leastSteel x then fromDepth x else noFigure LeastSteel
 
 unfoldable pub beamOutcome : Beam → Outcome
 beamOutcome x = sectionOutcome (sectionOf x)

@@ -8,7 +8,6 @@ ghost use Rattle.section.specs.Section.{G, S};
 ghost use Rattle.section.specs.Bounded.{Bounded};
 ghost use Rattle.bending.specs.Steps.{compressionDepth};
 ghost use Rattle.quantity.specs.Choice.{if_then_else_};
-ghost use Rattle.outcome.specs.Outcome.{outcome, stopped};
 ghost use Rattle.beam.specs.Checks.{fromLeastLinks, fromSpacing, fromShear, fromBending, fromDepth, sectionOutcome, beamOutcome};
 use bending::bending_capacity;
 use bending::compression_depth;
@@ -16,27 +15,16 @@ use bending::is_deep;
 use bending::least_steel;
 use member::Beam;
 use outcome::Check;
-use outcome::Figure;
 use outcome::Outcome;
+use outcome::no_figure;
+use outcome::one_figure;
+use outcome::two_figures;
 use section::Section;
 use section::section_of;
-use serviceability::after_shear;
 use serviceability::from_stress;
 use shear::least_links;
 use shear::link_spacing;
 use shear::shear_capacity;
-
-fn stop(check: Check) -> Outcome
-    ensures { λ r. ⌜ r ≡ stopped check ⌝ }
-{
-    Outcome {
-        check: check,
-        first: Figure::Unreached,
-        second: Figure::Unreached,
-        third: Figure::Unreached,
-        fourth: Figure::Unreached,
-    }
-}
 
 // 5.5.6r.
 fn from_least_links(x: Section, moment: u64, shear: u64) -> Outcome
@@ -46,7 +34,7 @@ fn from_least_links(x: Section, moment: u64, shear: u64) -> Outcome
     if least_links(x) {
         from_stress(x, moment, shear)
     } else {
-        after_shear(Check::LeastLinks, moment, shear)
+        two_figures(Check::LeastLinks, moment, shear)
     }
 }
 
@@ -58,7 +46,7 @@ fn from_spacing(x: Section, moment: u64, shear: u64) -> Outcome
     if link_spacing(x) {
         from_least_links(x, moment, shear)
     } else {
-        after_shear(Check::LinkSpacing, moment, shear)
+        two_figures(Check::LinkSpacing, moment, shear)
     }
 }
 
@@ -71,7 +59,7 @@ fn from_shear(x: Section, moment: u64) -> Outcome
     if x.v.0 <= shear.0 {
         from_spacing(x, moment, shear.0)
     } else {
-        after_shear(Check::Shear, moment, shear.0)
+        two_figures(Check::Shear, moment, shear.0)
     }
 }
 
@@ -84,7 +72,7 @@ fn from_bending(x: Section) -> Outcome
     if x.m <= moment {
         from_shear(x, moment)
     } else {
-        after_bending(bending_check(is_deep(x)), moment)
+        one_figure(bending_check(is_deep(x)), moment)
     }
 }
 
@@ -99,19 +87,6 @@ fn bending_check(deep: bool) -> Check
     }
 }
 
-// An outcome that stops with the moment.
-fn after_bending(check: Check, moment: u64) -> Outcome
-    ensures { λ r. ⌜ r ≡ outcome check (Figure.Reached moment) Figure.Unreached Figure.Unreached Figure.Unreached ⌝ }
-{
-    Outcome {
-        check: check,
-        first: Figure::Reached(moment),
-        second: Figure::Unreached,
-        third: Figure::Unreached,
-        fourth: Figure::Unreached,
-    }
-}
-
 // 4.2.2-3.
 fn from_depth(x: Section) -> Outcome
     requires { ⌜ (Bounded x) × (G x ≤ 50 * S x) ⌝ }
@@ -120,7 +95,7 @@ fn from_depth(x: Section) -> Outcome
     if compression_depth(x) {
         from_bending(x)
     } else {
-        stop(Check::CompressionDepth)
+        no_figure(Check::CompressionDepth)
     }
 }
 
@@ -132,7 +107,7 @@ fn check_section(x: Section) -> Outcome
     if least_steel(x) {
         from_depth(x)
     } else {
-        stop(Check::LeastSteel)
+        no_figure(Check::LeastSteel)
     }
 }
 

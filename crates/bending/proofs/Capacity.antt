@@ -13,7 +13,7 @@ use Rattle.section.specs.Section.{h₀, a′, e}
 use Rattle.section.specs.Bounded.{Bounded}
 use Rattle.bending.specs.Steps.{tensionForce, compressionForce, t, k, steelMoment, compressionDepth, isDeep, deepCapacity, shallowCapacity, bendingCapacity}
 use Rattle.bending.proofs.Bounds.{sizes}
-use Rattle.bending.proofs.Tests.{depth-pass, deep-tension}
+use Rattle.bending.proofs.Tests.{depth-reflects, deep-tension}
 
 -- On plain numbers: p and q are the forces of the tension and compression steel, g = h0 - a'.
 depth-core : (p q k h e : ℕ) → e ≤ 100 → 100 * p ≤ e * h * k + 100 * q → p - q ≤ h * k
@@ -33,7 +33,7 @@ module _ {x : Section} (p : Bounded x) (d : compressionDepth x ≡ true) where
   pub square-within : t x * t x ≤ steelMoment x * (2 * k x)
   square-within =
       square-core (t x) (k x) (h₀ x) (compressionForce x * (h₀ x - a′ x))
-      (depth-core (tensionForce x) (compressionForce x) (k x) (h₀ x) (e x) (p .steel .depth) (depth-pass x d))
+      (depth-core (tensionForce x) (compressionForce x) (k x) (h₀ x) (e x) (p .steel .depth) (depth-reflects x .holds d))
 
   pub rounded-within : up (t x * t x) (2 * k x) ≤ steelMoment x
   rounded-within = up-le (omega (arith, sizes p)) square-within

@@ -1,17 +1,17 @@
 -- The printed moment capacity is on the safe side of the clause's exact one, less than 1 N·m below it.
-use Prim.Native.Nat.{ℕ, _+_, _-_, _*_, _≤_, _<_}
-use mathlib.Core.Path.{_≡_, refl, sym, ap, _∙_}
+use Prim.Native.Nat.{ℕ, _+_, _-_, _*_, _<_}
+use mathlib.Core.Path.{_≡_, sym, ap, _∙_}
 use mathlib.Core.Bool.{Bool, true, false, _||_}
-use native.Mathlib.Nat.{mul-pos, mul-assoc, mul-comm, mul-left-comm, le-of-mul-le-mul-right, mul-le-mul-right, not-le-of-lt, lt-of-not-le}
+use native.Mathlib.Nat.{mul-pos, le-of-mul-le-mul-right, mul-le-mul-right}
 use native.Mathlib.Omega.{arith}
 use lib.Dec.{leb, eqb}
-use borrow.Author.Tests.{leb-true, leb-false, le-leb, lt-leb}
-use Rattle.quantity.specs.declared.Stress.{Stress}
 use Rattle.quantity.specs.Choice.{if_then_else_}
 use Rattle.quantity.specs.Fraction.{Frac, _//_, whole, _⊕_, _⊖_, _⊗_, _⊘_, _≼_}
 use Rattle.quantity.specs.Safe.{NotAbove}
-use Rattle.quantity.specs.Unit.{inUnits, inTenths, exactStress}
+use Rattle.quantity.specs.Unit.{exactStress}
 use Rattle.quantity.proofs.Fraction.{level, Same, same-refl, same-sym, same-trans, same-sum, same-difference, same-product, same-quotient, same-≼, ≼-same}
+use Rattle.quantity.proofs.Unit.{exact-units, exact-tenths}
+use Rattle.quantity.proofs.Reflects.{same-le}
 use Rattle.quantity.proofs.Rounding.{expand}
 use Rattle.quantity.proofs.Safe.{down-not-above, same-not-above}
 use Rattle.section.specs.declared.Section.{Section}
@@ -23,16 +23,7 @@ use Rattle.bending.proofs.Bounds.{sizes}
 use Rattle.bending.proofs.Tests.{deep-tension}
 use Rattle.bending.proofs.Capacity.{square-within}
 
--- ---- Forces in N are those of the steps in tenths of N: a stress of m·u hundredths times n/d is u·n tenths.
-
-force-core : (f n u m d : ℕ) → f ≡ m * u → m * 10 ≡ 100 * d → f * n * 10 ≡ u * n * (100 * d)
-force-core f n u m d e g = rw (e, ← g) (simp (mul-assoc, mul-comm, mul-left-comm))
-
-force-same : (f : Stress) (n u m d : ℕ) → 0 < d → f .0 ≡ m * u → m * 10 ≡ 100 * d → Same (exactStress f ⊗ (n // d)) ((u * n) // 10)
-unfolding exactStress _⊗_
-force-same f n u m d p e g = record { pos = omega arith; pos′ = omega arith; same = force-core (f .0) n u m d e g }
-
--- ---- Their differences, sums and products.
+-- ---- Forces in tenths of N: their differences, sums and products.
 
 difference-tenths : (p q : ℕ) → Same (p // 10 ⊖ q // 10) ((p - q) // 10)
 unfolding _⊖_
@@ -60,31 +51,25 @@ shallow-tenths p g = record { pos = omega arith; pos′ = omega arith; same = om
 
 -- ---- A comparison of two fractions by their numerators over one denominator.
 
-leb-same : (a b m n : ℕ) → (a ≤ b → m ≤ n) → (m ≤ n → a ≤ b) → leb a b ≡ leb m n
-leb-same a b m n f g = go (leb a b) refl
-  where
-    go : (c : Bool) → leb a b ≡ c → leb a b ≡ leb m n
-    go true e = e ∙ sym (le-leb m n (f (leb-true a b e)))
-    go false e = e ∙ sym (lt-leb m n (lt-of-not-le (λ h. not-le-of-lt (leb-false a b e) (g h))))
-
 at-most-same : {a b : Frac} (p q d : ℕ) → Same a (p // d) → Same b (q // d) → atMost a b ≡ leb p q
 at-most-same {a} {b} p q d u v =
-    leb-same (a .num * b .den) (b .num * a .den) p q
+    same-le (a .num * b .den) (b .num * a .den) p q
     (λ h. le-of-mul-le-mul-right (≼-same (p // d) v (same-≼ b u h)) (u .pos′))
     (λ h. ≼-same a (same-sym v) (same-≼ (q // d) (same-sym u) (mul-le-mul-right d h)))
 
 module _ {x : Section} (p : Bounded x) where
+  -- Forces in N are those of the steps in tenths of N.
   T-same : Same (T x) (tensionForce x // 10)
-  unfolding T
-  T-same = force-same (x .steel .fy) (S x) (inUnits (x .steel .fy)) 100 10 (omega arith) (p .steel .fy .exact) refl
+  unfolding T _⊗_
+  T-same = same-product (exact-units (x .steel .fy) (p .steel .fy .exact)) (same-refl (S x // 10) (omega arith))
 
   C-same : Same (C x) (compressionForce x // 10)
-  unfolding C
-  C-same = force-same (x .steel .fyc) (S′ x) (inUnits (x .steel .fyc)) 100 10 (omega arith) (p .steel .fyc .exact) refl
+  unfolding C _⊗_
+  C-same = same-product (exact-units (x .steel .fyc) (p .steel .fyc .exact)) (same-refl (S′ x // 10) (omega arith))
 
   K-same : Same (K x) (k x // 10)
-  unfolding K
-  K-same = force-same (x .concrete .fc) (b x) (inTenths (x .concrete .fc)) 10 1 (omega arith) (p .concrete .fc-exact) refl
+  unfolding K _⊗_
+  K-same = same-product (exact-tenths (x .concrete .fc) (p .concrete .fc-exact)) (same-refl (whole (b x)) (omega arith))
 
   t-same : Same (T x ⊖ C x) (t x // 10)
   t-same = same-trans (same-difference T-same C-same) (difference-tenths (tensionForce x) (compressionForce x))

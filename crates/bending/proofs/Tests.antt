@@ -1,35 +1,21 @@
--- Each test of bending decides its exact inequality.
-use Prim.Native.Nat.{ℕ, _+_, _*_, _≤_, _<_}
+-- Each test of bending reflects its exact inequality.
+use Prim.Native.Nat.{_+_, _*_, _≤_, _<_}
 use mathlib.Core.Path.{_≡_, refl, sym, _∙_}
-use mathlib.Core.Bool.{Bool, true, false, _&&_, _||_, true≢false, false≢true}
-use native.Mathlib.Nat.{mul-zero, zero-mul, not-le-of-lt}
+use mathlib.Core.Bool.{Bool, true, false, _||_}
+use native.Mathlib.Nat.{mul-zero, zero-mul}
 use native.Mathlib.Omega.{arith}
 use lib.Dec.{leb}
-use borrow.Author.Tests.{leb-true, leb-false, le-leb, lt-leb, eqb-true}
+use borrow.Author.Tests.{leb-true, le-leb, lt-leb, eqb-true}
+use Rattle.quantity.proofs.Reflects.{Reflects, reflects-le, reflects-both}
 use Rattle.section.specs.declared.Section.{Section}
 use Rattle.section.specs.Section.{a′, G, S, S′, ft, fy}
 use Rattle.section.specs.Bounded.{Bounded}
 use Rattle.bending.specs.Steps.{leastSteel, tensionForce, compressionForce, k, compressionDepth, isDeep}
 use Rattle.bending.specs.Exact.{LeastSteelHolds, DepthHolds}
 
--- Two comparisons at once.
-both-pass : (a b m n : ℕ) → leb a b && leb m n ≡ true → (a ≤ b) × (m ≤ n)
-both-pass a b m n h = go (leb a b) (leb m n) (leb-true a b) (leb-true m n) h
-  where
-    go : {P Q : Type 0} (p q : Bool) → (p ≡ true → P) → (q ≡ true → Q) → p && q ≡ true → P × Q
-    go true q f g h = (f refl, g h)
-    go false q f g h = absurd (false≢true h)
-
-both-fail : (a b m n : ℕ) → leb a b && leb m n ≡ false → (a ≤ b) × (m ≤ n) → ⊥
-both-fail a b m n h p = true≢false (sym (simp (le-leb a b (p .0), le-leb m n (p .1))) ∙ h)
-
-pub least-steel-pass : (x : Section) → leastSteel x ≡ true → LeastSteelHolds x
+pub least-steel-reflects : (x : Section) → Reflects (leastSteel x) (LeastSteelHolds x)
 unfolding leastSteel
-least-steel-pass x h = both-pass _ _ _ _ h
-
-pub least-steel-fail : (x : Section) → leastSteel x ≡ false → LeastSteelHolds x → ⊥
-unfolding leastSteel
-least-steel-fail x h p = both-fail _ _ _ _ h p
+least-steel-reflects x = reflects-both (reflects-le _ _) (reflects-le _ _)
 
 -- Its second comparison decides where the first holds.
 pub least-steel-second : (x : Section) → G x ≤ 50 * S x → leb (45 * ft x * G x) (1000 * S x * fy x) ≡ leastSteel x
@@ -40,13 +26,9 @@ pub least-steel-short : (x : Section) → 50 * S x < G x → false ≡ leastStee
 unfolding leastSteel
 least-steel-short x h = rw (lt-leb _ _ h)
 
-pub depth-pass : (x : Section) → compressionDepth x ≡ true → DepthHolds x
+pub depth-reflects : (x : Section) → Reflects (compressionDepth x) (DepthHolds x)
 unfolding compressionDepth
-depth-pass x h = leb-true _ _ h
-
-pub depth-fail : (x : Section) → compressionDepth x ≡ false → DepthHolds x → ⊥
-unfolding compressionDepth
-depth-fail x h p = not-le-of-lt (leb-false _ _ h) p
+depth-reflects x = reflects-le _ _
 
 -- Without compression steel a' is 0, and the comparison alone decides between 4.2.2 and 4.2.3.
 or-same : (p q : Bool) → (p ≡ true → q ≡ true) → p || q ≡ q

@@ -4,7 +4,6 @@ use mathlib.Core.Path.{_≡_, refl, sym, ap, _∙_}
 use mathlib.Core.Bool.{Bool, true, false}
 use mathlib.Core.List.{List}
 use native.Mathlib.Omega.{arith}
-use mathlib.Core.Logic.{⊎-elim}
 use Rattle.question.specs.declared.Question.{Question}
 use Rattle.question.specs.declared.Question.the-variants.{Mark, Kind, Field, Relation, Bars, Ratio}
 use Rattle.member.specs.Member.{h₀}
@@ -14,14 +13,16 @@ use Rattle.relation.specs.Relation.{beamRelation, columnRelation, meshRelation}
 use Rattle.reinforcement.specs.Reinforcement.{beamBars, beamRatio, columnBars}
 use Rattle.relation.proofs.Relation.{Related, related, column-order, apart-alone}
 use Rattle.reinforcement.proofs.Reinforcement.{few-bars, ratio, column-few-bars}
-use Rattle.field.specs.Fields.{fieldsOf, known}
+use Rattle.field.specs.declared.MemberKind.{MemberKind}
+use Rattle.field.specs.declared.MemberKind.the-variants as kinds
+use Rattle.field.specs.Fields.{tensionCount, compressionCount, columnCount, beamFields, columnFields, meshFields, known, kindOf, fieldsOf}
 use Rattle.slots.specs.Slots.{fieldsHold}
 use Rattle.layout.specs.Layout.{memberAt, groupsAt, beamAt, columnAt, meshAt}
 use Rattle.domain.proofs.Between.{in-between}
-use Rattle.layout.proofs.Held.{in-range, zero-or, in-bars, a-grade, a-steel, a-link-steel, groups-some, beam-held, tension-accepted, compression-accepted, column-held, column-groups-accepted, mesh-held, known-cases}
-use Rattle.built.specs.declared.Verdict.{Verdict}
-use Rattle.built.specs.declared.Verdict.the-variants.{Accepted}
-use Rattle.built.specs.Verdict.{markInRange, memberVerdict, builtVerdict, ask, beamVerdict, columnVerdict, meshVerdict}
+use Rattle.layout.proofs.Held.{in-range, zero-or, in-bars, a-grade, a-steel, a-link-steel, groups-some, beam-held, tension-accepted, compression-accepted, column-held, column-groups-accepted, mesh-held}
+use Rattle.question.specs.declared.Verdict.{Verdict}
+use Rattle.question.specs.declared.Verdict.the-variants.{Accepted}
+use Rattle.built.specs.Verdict.{markInRange, memberVerdict, fieldsVerdict, builtVerdict, ask, beamVerdict, columnVerdict, meshVerdict}
 
 -- an answer of the code to a question, said of the definition
 pub said : {A : Type 0} (f : A → Bool) {x y : A} {r b : Bool} → x ≡ y → r ≡ f x → r ≡ b → f y ≡ b
@@ -34,9 +35,9 @@ asked-yes q false next e = absurd (let z : _≡_ {A = ℕ} 0 1 = cc in omega ari
 
 -- ---- A beam.
 
-module _ (v : List ℕ) (e : fieldsHold (fieldsOf 1) 0 v ≡ true) where
-  with-relations : Related (beamAt v) → (barCount (groupsAt v 8) ≤ 40) × (barCount (groupsAt v 17) ≤ 40)
-      → 5 * area (groupsAt v 8) ≤ 2 * beamAt v .b * h₀ (beamAt v) → AcceptedBeam (beamAt v)
+module _ (v : List ℕ) (e : fieldsHold beamFields 0 v ≡ true) where
+  with-relations : Related (beamAt v) → (barCount (groupsAt v tensionCount) ≤ 40) × (barCount (groupsAt v compressionCount) ≤ 40)
+      → 5 * area (groupsAt v tensionCount) ≤ 2 * beamAt v .b * h₀ (beamAt v) → AcceptedBeam (beamAt v)
   unfolding beamAt
   with-relations r n s =
       record {
@@ -52,7 +53,7 @@ module _ (v : List ℕ) (e : fieldsHold (fieldsOf 1) 0 v ≡ true) where
         concrete = a-grade v 6 (beam-held v e 6 tt);
         steel = a-steel v 7 (beam-held v e 7 tt);
         tension = tension-accepted v e;
-        tension-some = groups-some v 8 (in-range v 8 1 4 (beam-held v e 8 tt) .0);
+        tension-some = groups-some v tensionCount (in-range v tensionCount 1 4 (beam-held v e tensionCount tt) .0);
         compression = compression-accepted v e;
         link = in-bars v 26 6 12 (beam-held v e 26 tt);
         legs-least = in-range v 27 2 8 (beam-held v e 27 tt) .0;
@@ -93,7 +94,7 @@ module _ (v : List ℕ) (e : fieldsHold (fieldsOf 1) 0 v ≡ true) where
 
 -- ---- A column.
 
-module _ (v : List ℕ) (e : fieldsHold (fieldsOf 2) 0 v ≡ true) where
+module _ (v : List ℕ) (e : fieldsHold columnFields 0 v ≡ true) where
   pub accepted-column : columnVerdict (columnAt v) ≡ Accepted → AcceptedColumn (columnAt v)
   unfolding columnVerdict columnAt
   accepted-column a =
@@ -107,7 +108,7 @@ module _ (v : List ℕ) (e : fieldsHold (fieldsOf 2) 0 v ≡ true) where
         concrete = a-grade v 2 (column-held v e 2 tt);
         steel = a-steel v 3 (column-held v e 3 tt);
         groups = column-groups-accepted v e;
-        groups-some = groups-some v 4 (in-range v 4 1 4 (column-held v e 4 tt) .0);
+        groups-some = groups-some v columnCount (in-range v columnCount 1 4 (column-held v e columnCount tt) .0);
         link = in-bars v 13 6 12 (column-held v e 13 tt);
         s-most = in-range v 14 50 600 (column-held v e 14 tt) .1;
         l₀-most = in-range v 15 500 30000 (column-held v e 15 tt) .1;
@@ -118,7 +119,7 @@ module _ (v : List ℕ) (e : fieldsHold (fieldsOf 2) 0 v ≡ true) where
 
 -- ---- A mesh.
 
-module _ (v : List ℕ) (e : fieldsHold (fieldsOf 3) 0 v ≡ true) where
+module _ (v : List ℕ) (e : fieldsHold meshFields 0 v ≡ true) where
   pub accepted-mesh : meshVerdict (meshAt v) ≡ Accepted → AcceptedMesh (meshAt v)
   unfolding meshVerdict meshAt
   accepted-mesh a =
@@ -148,23 +149,17 @@ module _ (mark : ℕ) (v : List ℕ) (m : markInRange mark ≡ true) where
   unfolding markInRange
   in-marks = in-between {lo = 1} {hi = 999999} m
 
-  pub accepted-member : (kind : ℕ) → known kind ≡ true → fieldsHold (fieldsOf kind) 0 v ≡ true → memberVerdict kind v ≡ Accepted
-      → AcceptedMember (memberAt mark kind v)
-  unfolding memberAt memberVerdict
-  accepted-member kind k e a =
-      ⊎-elim
-      (λ p. rw p (in-marks, accepted-beam v (rw p at e) (rw p at a)))
-      (λ q. ⊎-elim
-      (λ p. rw p (in-marks, accepted-column v (rw p at e) (rw p at a)))
-      (λ p. rw p (in-marks, accepted-mesh v (rw p at e) (rw p at a)))
-      q)
-      (known-cases kind k)
+  pub accepted-member : (kind : MemberKind) → fieldsHold (fieldsOf kind) 0 v ≡ true → memberVerdict kind v ≡ Accepted → AcceptedMember (memberAt mark kind v)
+  unfolding memberAt memberVerdict fieldsOf
+  accepted-member kinds.Beam e a = (in-marks, accepted-beam v e a)
+  accepted-member kinds.Column e a = (in-marks, accepted-column v e a)
+  accepted-member kinds.Mesh e a = (in-marks, accepted-mesh v e a)
 
 -- what a built member that is accepted satisfies
-pub accepted-built : (mark kind : ℕ) (v : List ℕ) → builtVerdict mark kind v ≡ Accepted → AcceptedMember (memberAt mark kind v)
-unfolding builtVerdict
-accepted-built mark kind v a =
+pub accepted-built : (mark number : ℕ) (v : List ℕ) → builtVerdict mark number v ≡ Accepted → AcceptedMember (memberAt mark (kindOf number) v)
+unfolding builtVerdict fieldsVerdict
+accepted-built mark number v a =
     let m = asked-yes Mark (markInRange mark) _ a in
-    let k = asked-yes Kind (known kind) _ (m .1) in
-    let f = asked-yes Field (fieldsHold (fieldsOf kind) 0 v) _ (k .1) in
-    accepted-member mark v (m .0) kind (k .0) (f .0) (f .1)
+    let k = asked-yes Kind (known number) _ (m .1) in
+    let f = asked-yes Field (fieldsHold (fieldsOf (kindOf number)) 0 v) _ (k .1) in
+    accepted-member mark v (m .0) (kindOf number) (f .0) (f .1)

@@ -10,11 +10,12 @@ use Rattle.member.specs.Member.{Beam, Column, Mesh, Member, beam, column, mesh}
 use Rattle.relation.specs.Relation.{beamRelation, columnRelation, meshRelation}
 use Rattle.reinforcement.specs.Reinforcement.{beamBars, beamRatio, columnBars}
 use Rattle.domain.specs.Domain.{between}
-use Rattle.field.specs.Fields.{fieldsOf, known}
+use Rattle.field.specs.declared.MemberKind.{MemberKind}
+use Rattle.field.specs.Fields.{known, kindOf, fieldsOf}
 use Rattle.slots.specs.Slots.{fieldsHold}
 use Rattle.layout.specs.Layout.{memberAt}
-use Rattle.built.specs.declared.Verdict.{Verdict}
-use Rattle.built.specs.declared.Verdict.the-variants.{Accepted, Refused}
+use Rattle.question.specs.declared.Verdict.{Verdict}
+use Rattle.question.specs.declared.Verdict.the-variants.{Accepted, Refused}
 
 -- question q is put: a no is the answer
 abbrev pub ask : Question → Bool → Verdict → Verdict
@@ -36,17 +37,17 @@ verdictOf (column mark x) = columnVerdict x
 verdictOf (mesh mark x) = meshVerdict x
 
 -- of a member in slots, whatever its mark
-unfoldable pub memberVerdict : ℕ → List ℕ → Verdict
+unfoldable pub memberVerdict : MemberKind → List ℕ → Verdict
 memberVerdict kind v = verdictOf (memberAt 0 kind v)
 
 -- 5, range only
 unfoldable pub markInRange : ℕ → Bool
 markInRange mark = between 1 999999 mark
 
+-- 7 to 10, of a kind
+unfoldable pub fieldsVerdict : MemberKind → List ℕ → Verdict
+fieldsVerdict kind v = ask Field (fieldsHold (fieldsOf kind) 0 v) (memberVerdict kind v)
+
 -- 5 (range only) and 6 to 10
 unfoldable pub builtVerdict : ℕ → ℕ → List ℕ → Verdict
-builtVerdict mark kind v =
-    ask Mark (markInRange mark)
-    (ask Kind (known kind)
-    (ask Field (fieldsHold (fieldsOf kind) 0 v)
-    (memberVerdict kind v)))
+builtVerdict mark number v = ask Mark (markInRange mark) (ask Kind (known number) (fieldsVerdict (kindOf number) v))

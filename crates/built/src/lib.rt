@@ -1,16 +1,19 @@
 // Questions 8 to 10 of a member in slots, and the questions put to a single built member.
 ghost use mathlib.Core.Path.{_≡_};
 ghost use mathlib.Core.Bool.{true};
-ghost use Rattle.field.specs.Fields.{fieldsOf, known};
+ghost use Rattle.field.specs.Fields.{beamFields, columnFields, fieldsOf};
 ghost use Rattle.slots.specs.Slots.{fieldsHold};
 ghost use Rattle.layout.specs.Layout.{beamAt, columnAt, meshAt};
-ghost use Rattle.built.specs.Verdict.{beamVerdict, columnVerdict, meshVerdict, memberVerdict, markInRange, builtVerdict};
+ghost use Rattle.built.specs.Verdict.{beamVerdict, columnVerdict, meshVerdict, memberVerdict, markInRange, fieldsVerdict, builtVerdict};
 use domain::is_between;
+use field::MemberKind;
 use field::is_known;
+use field::kind_of;
 use layout::beam_of;
 use layout::column_of;
 use layout::mesh_of;
 use question::Question;
+use question::Verdict;
 use reinforcement::beam_bars;
 use reinforcement::beam_ratio;
 use reinforcement::column_bars;
@@ -27,15 +30,9 @@ pub struct Built {
     pub fields: Slots,
 }
 
-pub enum Verdict {
-    Accepted,
-    // the first question that is answered no
-    Refused(Question),
-}
-
 // 8 to 10 of a beam whose fields passed question 7.
 fn beam_verdict(v: &[u32; 40]) -> Verdict
-    requires { ⌜ fieldsHold (fieldsOf 1) 0 (now v) ≡ true ⌝ }
+    requires { ⌜ fieldsHold beamFields 0 (now v) ≡ true ⌝ }
     ensures { λ r. ⌜ r ≡ beamVerdict (beamAt (now (v .entry))) ⌝ }
 {
     let x = beam_of(v);
@@ -56,7 +53,7 @@ fn beam_verdict(v: &[u32; 40]) -> Verdict
 
 // 8 and 9 of a column whose fields passed question 7.
 fn column_verdict(v: &[u32; 40]) -> Verdict
-    requires { ⌜ fieldsHold (fieldsOf 2) 0 (now v) ≡ true ⌝ }
+    requires { ⌜ fieldsHold columnFields 0 (now v) ≡ true ⌝ }
     ensures { λ r. ⌜ r ≡ columnVerdict (columnAt (now (v .entry))) ⌝ }
 {
     let x = column_of(v);
@@ -83,14 +80,14 @@ fn mesh_verdict(v: &[u32; 40]) -> Verdict
 }
 
 // 8 to 10 of a member whose fields passed question 7.
-pub fn member_verdict(kind: u32, v: &[u32; 40]) -> Verdict
-    requires { ⌜ (known kind ≡ true) × (fieldsHold (fieldsOf kind) 0 (now v) ≡ true) ⌝ }
+pub fn member_verdict(kind: MemberKind, v: &[u32; 40]) -> Verdict
+    requires { ⌜ fieldsHold (fieldsOf kind) 0 (now v) ≡ true ⌝ }
     ensures { λ r. ⌜ r ≡ memberVerdict kind (now (v .entry)) ⌝ }
 {
     match kind {
-        1 => beam_verdict(v),
-        2 => column_verdict(v),
-        _ => mesh_verdict(v),
+        MemberKind::Beam => beam_verdict(v),
+        MemberKind::Column => column_verdict(v),
+        MemberKind::Mesh => mesh_verdict(v),
     }
 }
 
@@ -101,6 +98,17 @@ pub fn mark_in_range(mark: u32) -> bool
     is_between(1, 999999, mark)
 }
 
+// 7 to 10 of a member of this kind.
+fn fields_verdict(kind: MemberKind, v: &[u32; 40]) -> Verdict
+    ensures { λ r. ⌜ r ≡ fieldsVerdict kind (now (v .entry)) ⌝ }
+{
+    if fields_hold(kind, v) {
+        member_verdict(kind, v)
+    } else {
+        Verdict::Refused(Question::Field)
+    }
+}
+
 // The questions put to a single built member.
 pub fn built_verdict(x: Built) -> Verdict
     ensures { λ r. ⌜ r ≡ builtVerdict (x .mark) (x .kind) (x .fields .v) ⌝ }
@@ -108,11 +116,7 @@ pub fn built_verdict(x: Built) -> Verdict
     let v = x.fields.v;
     if mark_in_range(x.mark) {
         if is_known(x.kind) {
-            if fields_hold(x.kind, &v) {
-                member_verdict(x.kind, &v)
-            } else {
-                Verdict::Refused(Question::Field)
-            }
+            fields_verdict(kind_of(x.kind), &v)
         } else {
             Verdict::Refused(Question::Kind)
         }

@@ -17,7 +17,7 @@ use Rattle.ratio.specs.declared.Utilization.{Utilization}
 use Rattle.ratio.specs.Ratio.{nought, noRatio, four}
 use Rattle.governing.specs.Governing.{double, none, governingOf}
 use Rattle.utilization.specs.Utilized.{valuesGiven, valuesRefused}
-use Rattle.reading.specs.Reading.{got, no, refusal}
+use Rattle.question.specs.Reading.{got, no, refusal}
 use Rattle.schedule.specs.Schedule.{schedule}
 use Rattle.lines.specs.Lines.{memberText}
 use Rattle.lent.specs.Lent.{lentMember}

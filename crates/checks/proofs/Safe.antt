@@ -6,8 +6,10 @@ use Rattle.outcome.specs.declared.Outcome.{Outcome}
 use Rattle.material.specs.Concrete.{concreteOf}
 use Rattle.material.specs.Steel.{steelOf}
 use Rattle.member.specs.Member.{Member, beam, column, mesh, Beam, Column, Mesh}
-use borrow.Author.Tests.{ne-eqb}
 use Rattle.member.specs.Accepted.{AcceptedMember, AcceptedBeam, AcceptedColumn, AcceptedMesh}
+use Rattle.field.specs.declared.MemberKind.{MemberKind}
+use Rattle.field.specs.declared.MemberKind.the-variants as kinds
+use Rattle.field.specs.Fields.{kindOf}
 use Rattle.layout.specs.Layout.{memberAt, beamAt, columnAt, meshAt}
 use Rattle.mesh.specs.Checks.{meshOutcome}
 use Rattle.column.specs.Checks.{columnOutcome}
@@ -31,29 +33,28 @@ line-safe m line a e = rw e (record { check = outcomeOf m .check; word = refl; m
 
 -- ---- By kind.
 
-module _ (mark : ℕ) (v : List ℕ) where
-  pub as-beam : {k : ℕ} → k ≡ 1 → AcceptedMember (memberAt mark k v) → AcceptedBeam (beamAt v)
+module _ (mark number : ℕ) (v : List ℕ) {kind : MemberKind} (is : kind ≡ kindOf number) where
+  pub as-beam : kind ≡ kinds.Beam → AcceptedMember (memberAt mark (kindOf number) v) → AcceptedBeam (beamAt v)
   unfolding memberAt
-  as-beam p a = (rw p at a) .1
+  as-beam p a = (rw (← is, p) at a) .1
 
-  pub as-column : {k : ℕ} → k ≡ 2 → AcceptedMember (memberAt mark k v) → AcceptedColumn (columnAt v)
+  pub as-column : kind ≡ kinds.Column → AcceptedMember (memberAt mark (kindOf number) v) → AcceptedColumn (columnAt v)
   unfolding memberAt
-  as-column p a = (rw p at a) .1
+  as-column p a = (rw (← is, p) at a) .1
 
-  pub as-mesh : {k : ℕ} → (k ≡ 1 → ⊥) → (k ≡ 2 → ⊥) → AcceptedMember (memberAt mark k v) → AcceptedMesh (meshAt v)
+  pub as-mesh : kind ≡ kinds.Mesh → AcceptedMember (memberAt mark (kindOf number) v) → AcceptedMesh (meshAt v)
   unfolding memberAt
-  as-mesh {k} p q a = (rw (ne-eqb k 1 p, ne-eqb k 2 q) at a) .1
+  as-mesh p a = (rw (← is, p) at a) .1
 
-  module _ {k : ℕ} {o : Outcome} where
-    pub beam-outcome : {x : Beam} → k ≡ 1 → x ≡ beamAt v → o ≡ beamOutcome x → o ≡ outcomeOf (memberAt mark k v)
+  module _ {o : Outcome} where
+    pub beam-outcome : {x : Beam} → kind ≡ kinds.Beam → x ≡ beamAt v → o ≡ beamOutcome x → o ≡ outcomeOf (memberAt mark (kindOf number) v)
     unfolding memberAt
-    beam-outcome p q e = rw p (e ∙ ap beamOutcome q)
+    beam-outcome p q e = rw (← is, p) (e ∙ ap beamOutcome q)
 
-    pub column-outcome : {x : Column} → k ≡ 2 → x ≡ columnAt v → o ≡ columnOutcome x (concreteOf (x .concrete)) (steelOf (x .steel)) →
-        o ≡ outcomeOf (memberAt mark k v)
+    pub column-outcome : {x : Column} → kind ≡ kinds.Column → x ≡ columnAt v → o ≡ columnOutcome x (concreteOf (x .concrete)) (steelOf (x .steel)) → o ≡ outcomeOf (memberAt mark (kindOf number) v)
     unfolding memberAt
-    column-outcome p q e = rw p (e ∙ ap (λ (x : Column). columnOutcome x (concreteOf (x .concrete)) (steelOf (x .steel))) q)
+    column-outcome p q e = rw (← is, p) (e ∙ ap (λ (x : Column). columnOutcome x (concreteOf (x .concrete)) (steelOf (x .steel))) q)
 
-    pub mesh-outcome : {x : Mesh} → (k ≡ 1 → ⊥) → (k ≡ 2 → ⊥) → x ≡ meshAt v → o ≡ meshOutcome x → o ≡ outcomeOf (memberAt mark k v)
+    pub mesh-outcome : {x : Mesh} → kind ≡ kinds.Mesh → x ≡ meshAt v → o ≡ meshOutcome x → o ≡ outcomeOf (memberAt mark (kindOf number) v)
     unfolding memberAt
-    mesh-outcome p r q e = rw (ne-eqb k 1 p, ne-eqb k 2 r) (e ∙ ap meshOutcome q)
+    mesh-outcome p q e = rw (← is, p) (e ∙ ap meshOutcome q)

@@ -7,10 +7,9 @@ use Rattle.material.specs.declared.Concrete.{Concrete}
 use Rattle.material.specs.declared.Steel.{Steel}
 use Rattle.member.specs.Member.{Column}
 use Rattle.bars.specs.Sums.{largest, smallest}
-use Rattle.outcome.specs.Outcome.{outcome, stopped}
+use Rattle.outcome.specs.Outcome.{noFigure, oneFigure}
 use Rattle.outcome.specs.declared.Outcome.{Outcome}
 use Rattle.outcome.specs.declared.Check.the-variants.{Passed, MostSteel, ColumnLinks, Slenderness, AxialForce}
-use Rattle.outcome.specs.declared.Figure.the-variants.{Reached, Unreached}
 use Rattle.axial.specs.Steps.{steelFits, slendernessFits, axialCapacity}
 
 -- 5.6.2: link diameter at least a quarter of the largest bar; spacing at most 400, b and 15 of the smallest
@@ -23,15 +22,15 @@ linksFit x =
 unfoldable pub axialOutcome : Column → Concrete → Steel → Outcome
 axialOutcome x concrete steel =
     if leb (x .N) (axialCapacity x concrete steel)
-    then outcome Passed (Reached (axialCapacity x concrete steel)) Unreached Unreached Unreached
-    else outcome AxialForce (Reached (axialCapacity x concrete steel)) Unreached Unreached Unreached
+    then oneFigure Passed (axialCapacity x concrete steel)
+    else oneFigure AxialForce (axialCapacity x concrete steel)
 
 -- the checks before it, in order
 unfoldable pub slendernessOutcome : Column → Concrete → Steel → Outcome
-slendernessOutcome x concrete steel = if slendernessFits x then axialOutcome x concrete steel else stopped Slenderness
+slendernessOutcome x concrete steel = if slendernessFits x then axialOutcome x concrete steel else noFigure Slenderness
 
 unfoldable pub linksOutcome : Column → Concrete → Steel → Outcome
-linksOutcome x concrete steel = if linksFit x then slendernessOutcome x concrete steel else stopped ColumnLinks
+linksOutcome x concrete steel = if linksFit x then slendernessOutcome x concrete steel else noFigure ColumnLinks
 
 unfoldable pub columnOutcome : Column → Concrete → Steel → Outcome
-columnOutcome x concrete steel = if steelFits x then linksOutcome x concrete steel else stopped MostSteel
+columnOutcome x concrete steel = if steelFits x then linksOutcome x concrete steel else noFigure MostSteel

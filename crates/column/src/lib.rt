@@ -5,7 +5,6 @@ ghost use Rattle.material.specs.Concrete.{concreteOf};
 ghost use Rattle.material.specs.Steel.{steelOf};
 ghost use Rattle.member.specs.Member.{columnOf};
 ghost use Rattle.member.specs.Accepted.{AcceptedColumn};
-ghost use Rattle.outcome.specs.Outcome.{outcome, stopped};
 ghost use Rattle.axial.specs.Given.{Given};
 ghost use Rattle.axial.specs.Steps.{steelFits, slendernessFits};
 ghost use Rattle.column.specs.Checks.{linksFit, axialOutcome, slendernessOutcome, linksOutcome, columnOutcome};
@@ -19,8 +18,9 @@ use material::concrete_of;
 use material::steel_of;
 use member::Column;
 use outcome::Check;
-use outcome::Figure;
 use outcome::Outcome;
+use outcome::no_figure;
+use outcome::one_figure;
 use quantity::both;
 
 // 5.6.2.
@@ -39,32 +39,6 @@ fn links_fit(x: Column) -> bool
     )
 }
 
-// The outcome of a check that fails before the capacity is reached.
-fn stop(check: Check) -> Outcome
-    ensures { λ r. ⌜ r ≡ stopped check ⌝ }
-{
-    Outcome {
-        check: check,
-        first: Figure::Unreached,
-        second: Figure::Unreached,
-        third: Figure::Unreached,
-        fourth: Figure::Unreached,
-    }
-}
-
-// The outcome of a column whose capacity was reached.
-fn reached(check: Check, capacity: u64) -> Outcome
-    ensures { λ r. ⌜ r ≡ outcome check (Figure.Reached capacity) Figure.Unreached Figure.Unreached Figure.Unreached ⌝ }
-{
-    Outcome {
-        check: check,
-        first: Figure::Reached(capacity),
-        second: Figure::Unreached,
-        third: Figure::Unreached,
-        fourth: Figure::Unreached,
-    }
-}
-
 // 4.2.4.
 fn check_axial(x: Column, concrete: Concrete, steel: Steel) -> Outcome
     requires { ⌜ (Given (columnOf x) concrete steel) × (steelFits (columnOf x) ≡ true) × (slendernessFits (columnOf x) ≡ true) ⌝ }
@@ -72,9 +46,9 @@ fn check_axial(x: Column, concrete: Concrete, steel: Steel) -> Outcome
 {
     let capacity = axial_capacity(x, concrete, steel).in_newtons();
     if x.n.in_newtons() <= capacity {
-        reached(Check::Passed, capacity)
+        one_figure(Check::Passed, capacity)
     } else {
-        reached(Check::AxialForce, capacity)
+        one_figure(Check::AxialForce, capacity)
     }
 }
 
@@ -86,7 +60,7 @@ fn check_slenderness(x: Column, concrete: Concrete, steel: Steel) -> Outcome
     if slenderness_fits(x) {
         check_axial(x, concrete, steel)
     } else {
-        stop(Check::Slenderness)
+        no_figure(Check::Slenderness)
     }
 }
 
@@ -98,7 +72,7 @@ fn check_links(x: Column, concrete: Concrete, steel: Steel) -> Outcome
     if links_fit(x) {
         check_slenderness(x, concrete, steel)
     } else {
-        stop(Check::ColumnLinks)
+        no_figure(Check::ColumnLinks)
     }
 }
 
@@ -110,7 +84,7 @@ fn check_with(x: Column, concrete: Concrete, steel: Steel) -> Outcome
     if steel_fits(x) {
         check_links(x, concrete, steel)
     } else {
-        stop(Check::MostSteel)
+        no_figure(Check::MostSteel)
     }
 }
 

@@ -6,8 +6,8 @@ use Rattle.quantity.specs.Rounding.{clamp}
 use Rattle.quantity.specs.Fraction.{Frac, _//_, whole, Proper, _⊕_, _⊖_, _⊗_, _⊘_, smaller, larger, held}
 use Rattle.quantity.specs.Unit.{exactStress}
 use Rattle.quantity.proofs.Rounding.{expand}
-use Rattle.quantity.proofs.Fraction.{level, Same, same-trans, same-difference, same-smaller, same-larger, same-product, product-smaller, product-larger, product-difference, proper-difference, proper-larger}
-use Rattle.quantity.proofs.Near.{times, over, same-times, same-over}
+use Rattle.quantity.proofs.Fraction.{level, Same, same-trans, same-difference, same-smaller, same-larger, same-product, product-smaller, product-larger, product-difference, proper-difference, proper-larger, proper-quotient, positive-product}
+use Rattle.quantity.proofs.Near.{times, over, same-times, same-over, quotient-times}
 use Rattle.section.specs.declared.Section.{Section}
 use Rattle.section.specs.Section.{b, h₀, c, W, S, E, D, Mq, ftk}
 use Rattle.cracking.specs.Exact.{As, f, p, ψ, exactWidth}
@@ -60,16 +60,6 @@ more-product : (a : Frac) → Proper a → Same (11 // 10 ⊗ a) (over (times 11
 unfolding _⊗_ over times
 more-product a p = record { pos = omega arith; pos′ = omega arith; same = simp expand (omega arith) }
 
-cancel : (k : ℕ) (a p f : Frac) → Proper a → 0 < p .num → 0 < f .num → Proper f →
-    Same ((a ⊘ (p ⊗ f)) ⊗ times k f) (times k (a ⊘ p))
-unfolding _⊗_ _⊘_ times
-cancel k a p f u v w x =
-    record { pos = mul-pos (mul-pos u (mul-pos v w)) x; pos′ = mul-pos u v; same = simp level (omega arith) }
-
-quotient-proper : (a p f : Frac) → Proper a → 0 < p .num → 0 < f .num → Proper (a ⊘ (p ⊗ f))
-unfolding _⊗_ _⊘_
-quotient-proper a p f u v w = mul-pos u (mul-pos v w)
-
 held-same : (k : ℕ) (a p f : Frac) {σ g : Frac} → Proper a → 0 < p .num → 0 < f .num → Proper f →
     Same (times k f) σ → Same (times k (a ⊘ p)) g →
     Same (held (2 // 10) (whole 1) (11 // 10 ⊖ a ⊘ (p ⊗ f)) ⊗ times k f) (mean* σ g)
@@ -77,7 +67,7 @@ unfolding held mean*
 held-same k a p f {σ} {g} u v w y s r =
     let F = times k f in
     let Q = a ⊘ (p ⊗ f) in
-    let Q-proper = quotient-proper a p f u v w in
+    let Q-proper = proper-quotient a (p ⊗ f) u (positive-product p f v w) in
     let m = 11 // 10 ⊖ Q in
     let m-proper : Proper m = proper-difference (11 // 10) Q (omega arith) Q-proper in
     same-trans (product-smaller (whole 1) (larger (2 // 10) m) F (omega arith) (proper-larger (2 // 10) m (omega arith) m-proper) (s .pos))
@@ -86,7 +76,7 @@ held-same k a p f {σ} {g} u v w y s r =
     (same-larger (same-trans (fifth-product F (s .pos)) (same-over (omega arith) s))
     (same-trans (product-difference (11 // 10) Q F (omega arith) Q-proper (s .pos))
     (same-difference (same-trans (more-product F (s .pos)) (same-over (omega arith) (same-times 11 s)))
-    (same-trans (cancel k a p f u v w y) r))))))
+    (same-trans (quotient-times k a p f u v w y) r))))))
 
 module _ (x : Section) (pM : 0 < Mq x) (ph : 0 < h₀ x) (pS : 0 < S x) where
   pub ψ-same : Same (ψ x ⊗ times 10000 (f x)) (mean* (stress* (Mq x) (h₀ x) (S x)) (stiffening* (ftk x) (W x) (S x)))
@@ -98,7 +88,7 @@ module _ (x : Section) (pM : 0 < Mq x) (ph : 0 < h₀ x) (pS : 0 < S x) where
   pub ψ-proper : Proper (ψ x)
   unfolding ψ held smaller larger _⊖_
   ψ-proper =
-      omega (arith, quotient-proper (cracking x) (p x) (f x) (cracking-proper x pM ph pS) (p-num x pM ph pS) (f-num x pM ph pS))
+      omega (arith, proper-quotient (cracking x) (p x ⊗ f x) (cracking-proper x pM ph pS) (positive-product (p x) (f x) (p-num x pM ph pS) (f-num x pM ph pS)))
 
 -- ---- Crack width.
 

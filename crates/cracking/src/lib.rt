@@ -4,6 +4,7 @@ ghost use mathlib.Core.Bool.{true};
 ghost use Prim.Native.Nat.{_*_, _≤_};
 ghost use Rattle.section.specs.Section.{b, c, G, W, S};
 ghost use Rattle.section.specs.Bounded.{Bounded};
+ghost use Rattle.cracking.specs.Bounds.{stressMost, spacingMost};
 ghost use Rattle.cracking.specs.Steps.{stressHolds, steelStress, stiffening, meanStress, crackSpacing, widthOf, σ, q, crackWidth, widthLimit};
 use quantity::clamped;
 use quantity::div_down;
@@ -31,7 +32,7 @@ fn steel_stress_of(mq: u64, h0: u64, s: u64) -> u64
 // σ, 0.0001 N/mm².
 pub fn steel_stress(x: Section) -> u64
     requires { ⌜ (Bounded x) × (stressHolds x ≡ true) ⌝ }
-    ensures { λ r. ⌜ (r ≡ σ x) × (r ≤ 6000000) ⌝ }
+    ensures { λ r. ⌜ r ≡ σ x ⌝ }
 {
     steel_stress_of(x.mq, x.depth.0, x.tension)
 }
@@ -44,8 +45,8 @@ fn stiffening_of(ftk: u64, w: u64, s: u64) -> u64
 }
 
 fn mean_stress_of(stress: u64, taken: u64) -> u64
-    requires { ⌜ stress ≤ 6000000 ⌝ }
-    ensures { λ r. ⌜ (r ≡ meanStress stress taken) × (r ≤ stress) ⌝ }
+    requires { ⌜ stress ≤ stressMost ⌝ }
+    ensures { λ r. ⌜ r ≡ meanStress stress taken ⌝ }
 {
     let fifth = div_up(stress, 5);
     let more = div_up(11 * stress, 10);
@@ -54,15 +55,15 @@ fn mean_stress_of(stress: u64, taken: u64) -> u64
 
 fn weighted_area(x: Section) -> u64
     requires { ⌜ Bounded x ⌝ }
-    ensures { λ r. ⌜ (r ≡ W x) × (r ≤ 10000000) ⌝ }
+    ensures { λ r. ⌜ r ≡ W x ⌝ }
 {
     x.b.0 * x.h.0 + 2 * x.flange
 }
 
 // q, the mean stress between cracks, from σ.
 pub fn mean_stress(x: Section, stress: u64) -> u64
-    requires { ⌜ (Bounded x) × (stress ≡ σ x) × (stress ≤ 6000000) ⌝ }
-    ensures { λ r. ⌜ (r ≡ q x) × (r ≤ 6000000) ⌝ }
+    requires { ⌜ (Bounded x) × (stress ≡ σ x) × (stress ≤ stressMost) ⌝ }
+    ensures { λ r. ⌜ r ≡ q x ⌝ }
 {
     mean_stress_of(
         stress,
@@ -72,13 +73,13 @@ pub fn mean_stress(x: Section, stress: u64) -> u64
 
 fn crack_spacing_of(c: u64, e: u64, w: u64, d: u64, s: u64) -> u64
     requires { ⌜ (e ≤ 50 * d) × (w ≤ 100 * s) × (w ≤ 10000000) × (1 ≤ d) × (d ≤ 2000) × (1 ≤ s) × (s ≤ 800000) ⌝ }
-    ensures { λ r. ⌜ (r ≡ crackSpacing c e w d s) × (r ≤ 212350) ⌝ }
+    ensures { λ r. ⌜ r ≡ crackSpacing c e w d s ⌝ }
 {
     190 * clamped(20, 65, c) + div_up(40 * e * w, d * s)
 }
 
 fn width_of(mean: u64, spacing: u64) -> u64
-    requires { ⌜ (mean ≤ 6000000) × (spacing ≤ 212350) ⌝ }
+    requires { ⌜ (mean ≤ stressMost) × (spacing ≤ spacingMost) ⌝ }
     ensures { λ r. ⌜ r ≡ widthOf mean spacing ⌝ }
 {
     div_up(19 * mean * spacing, 2000000000)
@@ -86,7 +87,7 @@ fn width_of(mean: u64, spacing: u64) -> u64
 
 // 4.4.2: the crack width, 0.001 mm, from q.
 pub fn crack_width(x: Section, mean: u64) -> u64
-    requires { ⌜ (Bounded x) × (G x ≤ 50 * S x) × (mean ≡ q x) × (mean ≤ 6000000) ⌝ }
+    requires { ⌜ (Bounded x) × (G x ≤ 50 * S x) × (mean ≡ q x) × (mean ≤ stressMost) ⌝ }
     ensures { λ r. ⌜ r ≡ crackWidth x ⌝ }
 {
     width_of(

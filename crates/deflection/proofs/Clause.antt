@@ -45,15 +45,10 @@ flexibility-same x u v e = ζ-core (S x) (x .concrete .ec .0) (Ec x) (b x) (h₀
 curvature-same : (ψ ζ f : Frac) → Proper ψ → Proper ζ → Proper f →
     Same (times 10000 (softening ψ ζ ⊗ f)) (curvature* (ψ ⊗ times 10000 f) (times (10 ^ 6) (2 // 10 ⊕ ζ)) (times 10000 f))
 unfolding curvature* _⊗_ times over _⊕_
-curvature-same ψ ζ f u v w = core (ψ .num) (ψ .den) (ζ .num) (ζ .den) (f .num) (f .den) u v w
-  where
-    core : (a b c d n m : ℕ) → 0 < b → 0 < d → 0 < m →
-        Same (times 10000 (softening (a // b) (c // d) ⊗ (n // m)))
-        (curvature* ((a // b) ⊗ times 10000 (n // m)) (times (10 ^ 6) (2 // 10 ⊕ (c // d))) (times 10000 (n // m)))
-    core a b c d n m u v w =
-        let e : 0 < b * d * m = mul-pos (mul-pos u v) w in
-        let g : 0 < b * d * m * m = mul-pos e w in
-        record { pos = simp expand (omega (arith, simp expand at e)); pos′ = simp expand (omega (arith, simp expand at g)); same = simp expand (omega arith) }
+curvature-same ψ ζ f u v w =
+    let e : 0 < ψ .den * ζ .den * f .den = mul-pos (mul-pos u v) w in
+    let g : 0 < ψ .den * ζ .den * f .den * f .den = mul-pos e w in
+    record { pos = simp expand (omega (arith, simp expand at e)); pos′ = simp expand (omega (arith, simp expand at g)); same = simp expand (omega arith) }
 
 θ-same : (x : Section) → 0 < S x → Same (times (10 ^ 6) (θ x)) (long* (S x) (S′ x) (x .flanged))
 unfolding θ long* creep* times _⊖_ _⊗_ over

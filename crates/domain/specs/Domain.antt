@@ -1,6 +1,6 @@
 -- What a field may hold (document 01, "Schedule bytes"), and question 7 of one field.
 use Prim.Native.Nat.{ℕ}
-use mathlib.Core.Bool.{Bool, true, _&&_, _||_}
+use mathlib.Core.Bool.{Bool, true, false, _&&_, _||_}
 use mathlib.Core.List.{List}
 use lib.Dec.{leb, ltb, eqb}
 use lib.ListN.{getD}
@@ -36,16 +36,32 @@ holds LinkSteel x = listed x linkSteels
 holds (GroupDiameter count place) x = groupDiameter x
 holds (GroupBars count place) x = groupBars x
 
--- Whether a field is there in a member whose slots hold v: a group is, where its list's count is above its place.
+-- When a field is there: always, or, in a group, where the count in this slot is above this place in the list, from 0.
+pub data Presence : Type 0 where
+  always : Presence
+  counted : ℕ → ℕ → Presence
+
+abbrev pub presence : Domain → Presence
+presence (GroupDiameter count place) = counted count place
+presence (GroupBars count place) = counted count place
+presence (Range lo hi) = always
+presence (ZeroOr lo hi) = always
+presence (Bar lo hi) = always
+presence Grade = always
+presence Steel = always
+presence LinkSteel = always
+
+abbrev pub isAlways : Presence → Bool
+isAlways always = true
+isAlways (counted count place) = false
+
+abbrev pub present : Presence → List ℕ → Bool
+present always v = true
+present (counted count place) v = ltb place (getD v count 0)
+
+-- Whether a field is there in a member whose slots hold v.
 unfoldable pub asked : Domain → List ℕ → Bool
-asked (GroupDiameter count place) v = ltb place (getD v count 0)
-asked (GroupBars count place) v = ltb place (getD v count 0)
-asked (Range lo hi) v = true
-asked (ZeroOr lo hi) v = true
-asked (Bar lo hi) v = true
-asked Grade v = true
-asked Steel v = true
-asked LinkSteel v = true
+asked d v = present (presence d) v
 
 -- Question 7 of the field in slot i.
 unfoldable pub fieldHolds : Domain → ℕ → List ℕ → Bool

@@ -1,37 +1,25 @@
--- What is known of a kind, and a table's fields by slot.
+-- A kind's table of fields, and its fields by slot.
 use Prim.Native.Nat.{ℕ, zero, suc, _+_, _-_, _≤_, _<_}
 use mathlib.Core.Path.{_≡_, sym, ap, _∙_}
-use mathlib.Core.Bool.{Bool, true}
-use mathlib.Core.List.{List, [], _∷_, _++_}
+use mathlib.Core.List.{List, _∷_, _++_}
 use native.Mathlib.Numerals.{add-one}
 use native.Mathlib.Omega.{arith}
-use lib.Dec.{leb, leb→le}
 use lib.ListN.{length, getD, drop, List·getD-append}
 use lib.Seq.{drop-cons, getD-append-add}
-use Rattle.table.proofs.Table.{every-at}
 use Rattle.domain.specs.declared.Domain.{Domain}
 use Rattle.domain.specs.declared.Domain.the-variants.{Grade}
-use Rattle.field.specs.Fields.{kinds, fieldsOf, known}
-use Rattle.domain.proofs.Between.{in-between}
+use Rattle.field.specs.declared.MemberKind.{MemberKind}
+use Rattle.field.specs.declared.MemberKind.the-variants.{Beam, Column, Mesh}
+use Rattle.field.specs.Fields.{fieldsOf}
 
 -- ---- A kind.
 
-pub known-below : (kind : ℕ) → known kind ≡ true → kind < 4
-unfolding known
-known-below kind e = omega (arith, in-between {lo = 1} {hi = 3} {x = kind} e)
-
--- a known kind that is neither a beam nor a column is a mesh
-pub known-mesh : (kind : ℕ) → known kind ≡ true → (kind ≡ 1 → ⊥) → (kind ≡ 2 → ⊥) → kind ≡ 3
-unfolding known
-known-mesh kind e one two = omega (arith, in-between {lo = 1} {hi = 3} {x = kind} e, one, two)
-
-few : ℕ → List Domain → Bool
-few k fs = leb (length fs) 40
-
 -- a member's fields fit the slots
-pub fields-fit : (kind : ℕ) → known kind ≡ true → length (fieldsOf kind) ≤ 40
-unfolding few fieldsOf
-fields-fit kind e = leb→le (length (getD kinds kind [])) 40 (every-at few [] kinds tt kind (known-below kind e))
+pub fields-fit : (kind : MemberKind) → length (fieldsOf kind) ≤ 40
+unfolding fieldsOf
+fields-fit Beam = omega arith
+fields-fit Column = omega arith
+fields-fit Mesh = omega arith
 
 -- ---- A field by its slot.
 

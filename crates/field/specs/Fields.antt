@@ -3,10 +3,34 @@
 use Prim.Native.Nat.{ℕ}
 use mathlib.Core.Bool.{Bool}
 use mathlib.Core.List.{List, [], _∷_, _++_}
-use lib.ListN.{getD}
+use lib.Dec.{eqb}
+use Rattle.quantity.specs.Choice.{if_then_else_}
 use Rattle.domain.specs.declared.Domain.{Domain}
 use Rattle.domain.specs.declared.Domain.the-variants.{Range, ZeroOr, Bar, Grade, Steel, LinkSteel, GroupDiameter, GroupBars}
 use Rattle.domain.specs.Domain.{between}
+use Rattle.field.specs.declared.MemberKind.{MemberKind}
+use Rattle.field.specs.declared.MemberKind.the-variants as kinds
+
+-- ---- Slots by name. A list's groups take the eight slots after its count.
+
+-- of a beam: the count of its tension groups, that of its compression groups, and the first field after them
+abbrev pub tensionCount : ℕ
+tensionCount = 8
+
+abbrev pub compressionCount : ℕ
+compressionCount = 17
+
+abbrev pub beamLinks : ℕ
+beamLinks = 26
+
+-- of a column: the count of its groups, and the first field after them
+abbrev pub columnCount : ℕ
+columnCount = 4
+
+abbrev pub columnLinks : ℕ
+columnLinks = 13
+
+-- ---- The tables.
 
 -- the groups of a list whose count stands in slot k: diameter and number of bars of each
 abbrev pub groups : ℕ → List Domain
@@ -22,10 +46,10 @@ beamFields =
     ∷ Range 20 200 ∷ ZeroOr 20 200
     -- concrete, steel
     ∷ Grade ∷ Steel
-    -- tension group count (slot 8) and groups
-    ∷ Range 1 4 ∷ (groups 8
-    -- compression group count (slot 17) and groups
-    ++ (Range 0 4 ∷ (groups 17
+    -- tension group count and groups
+    ∷ Range 1 4 ∷ (groups tensionCount
+    -- compression group count and groups
+    ++ (Range 0 4 ∷ (groups compressionCount
     -- links: diameter, legs, spacing, steel
     ++ (Bar 6 12 ∷ Range 2 8 ∷ Range 50 400 ∷ LinkSteel
     -- cover, span
@@ -42,8 +66,8 @@ columnFields =
     Range 300 1500 ∷ Range 300 1500
     -- concrete, steel
     ∷ Grade ∷ Steel
-    -- group count (slot 4) and groups
-    ∷ Range 1 4 ∷ (groups 4
+    -- group count and groups
+    ∷ Range 1 4 ∷ (groups columnCount
     -- links: diameter, spacing
     ++ (Bar 6 12 ∷ Range 50 600
     -- l0, N
@@ -61,13 +85,17 @@ meshFields =
     -- anchorage given, lap given
     ∷ Range 0 100000 ∷ Range 0 100000 ∷ []
 
--- By kind; there is no kind 0.
-abbrev pub kinds : List (List Domain)
-kinds = [] ∷ beamFields ∷ columnFields ∷ meshFields ∷ []
+-- ---- The kinds.
 
-unfoldable pub fieldsOf : ℕ → List Domain
-fieldsOf kind = getD kinds kind []
-
--- Question 6.
+-- Question 6: the kinds have the numbers 1 to 3.
 unfoldable pub known : ℕ → Bool
-known kind = between 1 3 kind
+known number = between 1 3 number
+
+-- the kind of a known number
+unfoldable pub kindOf : ℕ → MemberKind
+kindOf number = if eqb number 1 then kinds.Beam else if eqb number 2 then kinds.Column else kinds.Mesh
+
+unfoldable pub fieldsOf : MemberKind → List Domain
+fieldsOf kinds.Beam = beamFields
+fieldsOf kinds.Column = columnFields
+fieldsOf kinds.Mesh = meshFields

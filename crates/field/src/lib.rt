@@ -1,11 +1,42 @@
 // The fields of each kind of member in the order of a schedule, each with its domain.
 ghost use mathlib.Core.Path.{_≡_};
-ghost use mathlib.Core.Bool.{true};
 ghost use Prim.Native.Nat.{_<_};
 ghost use lib.ListN.{length, getD};
-ghost use Rattle.field.specs.Fields.{groups, beamFields, columnFields, meshFields, fieldsOf, known};
+ghost use Rattle.field.specs.Fields.{groups, beamFields, columnFields, meshFields, known, kindOf, fieldsOf};
 use domain::Domain;
 use domain::is_between;
+
+// The kinds of member.
+pub enum MemberKind {
+    Beam,
+    Column,
+    Mesh,
+}
+
+// Slots of a beam: the count of its tension groups and the first of them, the same in compression, the first field after them, and how many there are.
+pub const TENSION_COUNT: usize = 8;
+
+pub const TENSION_GROUPS: usize = 9;
+
+pub const COMPRESSION_COUNT: usize = 17;
+
+pub const COMPRESSION_GROUPS: usize = 18;
+
+pub const BEAM_LINKS: usize = 26;
+
+pub const BEAM_FIELDS: usize = 37;
+
+// Of a column.
+pub const COLUMN_COUNT: usize = 4;
+
+pub const COLUMN_GROUPS: usize = 5;
+
+pub const COLUMN_LINKS: usize = 13;
+
+pub const COLUMN_FIELDS: usize = 17;
+
+// Of a mesh, which has no groups.
+pub const MESH_FIELDS: usize = 11;
 
 // Field j of a list of groups whose count stands in slot k.
 pub fn group_field(k: u32, j: usize) -> Domain
@@ -26,7 +57,7 @@ pub fn group_field(k: u32, j: usize) -> Domain
 
 // Field i of a beam.
 pub fn beam_field(i: usize) -> Domain
-    requires { ⌜ i < 37 ⌝ }
+    requires { ⌜ i < length beamFields ⌝ }
     ensures { λ r. ⌜ r ≡ getD beamFields i Domain.Grade ⌝ }
 {
     match i {
@@ -39,9 +70,9 @@ pub fn beam_field(i: usize) -> Domain
         6 => Domain::Grade,
         7 => Domain::Steel,
         8 => Domain::Range(1, 4),
-        9..=16 => group_field(8, i - 9),
+        9..=16 => group_field(TENSION_COUNT as u32, i - TENSION_GROUPS),
         17 => Domain::Range(0, 4),
-        18..=25 => group_field(17, i - 18),
+        18..=25 => group_field(COMPRESSION_COUNT as u32, i - COMPRESSION_GROUPS),
         26 => Domain::Bar(6, 12),
         27 => Domain::Range(2, 8),
         28 => Domain::Range(50, 400),
@@ -58,7 +89,7 @@ pub fn beam_field(i: usize) -> Domain
 
 // Field i of a column.
 pub fn column_field(i: usize) -> Domain
-    requires { ⌜ i < 17 ⌝ }
+    requires { ⌜ i < length columnFields ⌝ }
     ensures { λ r. ⌜ r ≡ getD columnFields i Domain.Grade ⌝ }
 {
     match i {
@@ -67,7 +98,7 @@ pub fn column_field(i: usize) -> Domain
         2 => Domain::Grade,
         3 => Domain::Steel,
         4 => Domain::Range(1, 4),
-        5..=12 => group_field(4, i - 5),
+        5..=12 => group_field(COLUMN_COUNT as u32, i - COLUMN_GROUPS),
         13 => Domain::Bar(6, 12),
         14 => Domain::Range(50, 600),
         15 => Domain::Range(500, 30000),
@@ -77,7 +108,7 @@ pub fn column_field(i: usize) -> Domain
 
 // Field i of a mesh.
 pub fn mesh_field(i: usize) -> Domain
-    requires { ⌜ i < 11 ⌝ }
+    requires { ⌜ i < length meshFields ⌝ }
     ensures { λ r. ⌜ r ≡ getD meshFields i Domain.Grade ⌝ }
 {
     match i {
@@ -96,32 +127,42 @@ pub fn mesh_field(i: usize) -> Domain
 }
 
 // Question 6.
-pub fn is_known(kind: u32) -> bool
-    ensures { λ r. ⌜ r ≡ known kind ⌝ }
+pub fn is_known(number: u32) -> bool
+    ensures { λ r. ⌜ r ≡ known number ⌝ }
 {
-    is_between(1, 3, kind)
+    is_between(1, 3, number)
+}
+
+// The kind of a number that question 6 lets through.
+pub fn kind_of(number: u32) -> MemberKind
+    ensures { λ r. ⌜ r ≡ kindOf number ⌝ }
+{
+    match number {
+        1 => MemberKind::Beam,
+        2 => MemberKind::Column,
+        _ => MemberKind::Mesh,
+    }
 }
 
 // The number of fields of a kind.
-pub fn field_count(kind: u32) -> usize
-    requires { ⌜ known kind ≡ true ⌝ }
+pub fn field_count(kind: MemberKind) -> usize
     ensures { λ r. ⌜ r ≡ length (fieldsOf kind) ⌝ }
 {
     match kind {
-        1 => 37,
-        2 => 17,
-        _ => 11,
+        MemberKind::Beam => BEAM_FIELDS,
+        MemberKind::Column => COLUMN_FIELDS,
+        MemberKind::Mesh => MESH_FIELDS,
     }
 }
 
 // Field i of a kind.
-pub fn field_of(kind: u32, i: usize) -> Domain
-    requires { ⌜ (known kind ≡ true) × (i < length (fieldsOf kind)) ⌝ }
+pub fn field_of(kind: MemberKind, i: usize) -> Domain
+    requires { ⌜ i < length (fieldsOf kind) ⌝ }
     ensures { λ r. ⌜ r ≡ getD (fieldsOf kind) i Domain.Grade ⌝ }
 {
     match kind {
-        1 => beam_field(i),
-        2 => column_field(i),
-        _ => mesh_field(i),
+        MemberKind::Beam => beam_field(i),
+        MemberKind::Column => column_field(i),
+        MemberKind::Mesh => mesh_field(i),
     }
 }

@@ -6,6 +6,7 @@ use mathlib.Core.List.{List, [], _∷_}
 use mathlib.Core.Logic.{_⊎_}
 use lib.Dec.{T}
 use lib.Ieee.{Float, lt, le}
+use Rattle.quantity.specs.All.{All}
 use Rattle.quantity.specs.Choice.{if_then_else_}
 use Rattle.ratio.specs.declared.Ratio.{Ratio}
 use Rattle.ratio.specs.declared.Utilization.{Utilization}
@@ -54,8 +55,7 @@ Among (r ∷ rs) x = ((r .reached ≡ true) × (r .value ≡ x)) ⊎ Among rs x
 
 -- those reached are finite and not negative, as every member's are
 abbrev pub FiniteNonneg : List Ratio → Type 0
-FiniteNonneg [] = Unit {0}
-FiniteNonneg (r ∷ rs) = (r .reached ≡ true → T (finiteNonneg (r .value))) × FiniteNonneg rs
+FiniteNonneg rs = All (λ (r : Ratio). r .reached ≡ true → T (finiteNonneg (r .value))) rs
 
 -- "the largest wins": g is at least y
 abbrev pub AtLeast : DoubleOrNone → Float → Type 0

@@ -8,15 +8,16 @@ use Rattle.member.specs.Member.{Member}
 use Rattle.bars.specs.declared.Group.{Group}
 use Rattle.built.specs.declared.Built.{Built}
 use Rattle.built.specs.Built.{memberOf}
-use Rattle.built.specs.declared.Verdict.{Verdict}
-use Rattle.built.specs.declared.Verdict.the-variants.{Accepted, Refused}
+use Rattle.question.specs.declared.Verdict.{Verdict}
+use Rattle.question.specs.declared.Verdict.the-variants.{Accepted, Refused}
 use Rattle.built.specs.Verdict.{builtVerdict}
-use Rattle.reading.specs.Reading.{got}
+use Rattle.question.specs.Reading.{got}
 use Rattle.lists.specs.Copied.{four}
+use Rattle.field.specs.Fields.{kindOf}
 use Rattle.lent.specs.declared.Lent.{Lent}
 use Rattle.lent.specs.Lent.{lentMember, firstCount, secondCount}
-use Rattle.lent.specs.Slots.{lentSlots, builtOf}
-use Rattle.lent.proofs.InSlots.{copied, slots, lent-verdict, lent-member}
+use Rattle.lent.specs.Slots.{builtOf}
+use Rattle.lent.proofs.InSlots.{slots-again, copied, slots, lent-verdict, lent-member}
 use Rattle.printed.specs.declared.Answer.{Answer}
 use Rattle.printed.specs.Printed.{numbersOf, answered}
 use Rattle.lines.specs.Lines.{memberText}
@@ -65,7 +66,6 @@ module _ (x : Lent) (first second : List Group) where
       }
 
   pub lent-told : {gs hs : List Group} {before after : List ℕ} {r : Told}
-      → gs ≡ four (take (firstCount (x .kind) (x .fields .v)) first) → hs ≡ four (take (secondCount (x .kind) (x .fields .v)) second)
+      → gs ≡ four (take (firstCount (kindOf (x .kind)) (x .fields .v)) first) → hs ≡ four (take (secondCount (kindOf (x .kind)) (x .fields .v)) second)
       → MemberTold (memberReportOf (builtOf x gs hs)) (memberOf (builtOf x gs hs)) before after r → MemberTold (lentReportOf x first second) (lentMember x first second) before after r
-  unfolding lentSlots
-  lent-told i j p = lent-copied (rw (i, j) at p)
+  lent-told i j p = lent-copied (rw (i, j, slots-again (kindOf (x .kind)) (x .fields .v) (take (firstCount (kindOf (x .kind)) (x .fields .v)) first) (take (secondCount (kindOf (x .kind)) (x .fields .v)) second)) at p)

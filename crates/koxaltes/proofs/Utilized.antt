@@ -7,14 +7,15 @@ use lib.Ieee.{Float, le}
 use Rattle.bars.specs.declared.Group.{Group}
 use Rattle.built.specs.declared.Built.{Built}
 use Rattle.built.specs.Built.{memberOf}
-use Rattle.built.specs.declared.Verdict.{Verdict}
-use Rattle.built.specs.declared.Verdict.the-variants.{Accepted, Refused}
+use Rattle.question.specs.declared.Verdict.{Verdict}
+use Rattle.question.specs.declared.Verdict.the-variants.{Accepted, Refused}
 use Rattle.built.specs.Verdict.{builtVerdict}
 use Rattle.lists.specs.Copied.{four}
+use Rattle.field.specs.Fields.{kindOf}
 use Rattle.lent.specs.declared.Lent.{Lent}
 use Rattle.lent.specs.Lent.{lentMember, firstCount, secondCount}
-use Rattle.lent.specs.Slots.{lentSlots, builtOf}
-use Rattle.lent.proofs.InSlots.{copied, slots, lent-verdict, lent-member}
+use Rattle.lent.specs.Slots.{builtOf}
+use Rattle.lent.proofs.InSlots.{slots-again, copied, slots, lent-verdict, lent-member}
 use Rattle.question.proofs.Numbers.{numbered}
 use Rattle.governing.specs.Governing.{DoubleOrNone, double, none, ratiosOf, governingOf, Among, FiniteNonneg, Governs}
 use Rattle.governing.proofs.Largest.{governs}
@@ -98,7 +99,6 @@ module _ (x : Lent) (first second : List Group) where
       }
 
   pub lent-utilized : {gs hs : List Group} {r : UtilizationTold}
-      → gs ≡ four (take (firstCount (x .kind) (x .fields .v)) first) → hs ≡ four (take (secondCount (x .kind) (x .fields .v)) second)
+      → gs ≡ four (take (firstCount (kindOf (x .kind)) (x .fields .v)) first) → hs ≡ four (take (secondCount (kindOf (x .kind)) (x .fields .v)) second)
       → MemberUtilized (answerOf (builtOf x gs hs)) (memberOf (builtOf x gs hs)) r → MemberUtilized (lentUtilizationOf x first second) (lentMember x first second) r
-  unfolding lentSlots
-  lent-utilized i j p = lent-copied (rw (i, j) at p)
+  lent-utilized i j p = lent-copied (rw (i, j, slots-again (kindOf (x .kind)) (x .fields .v) (take (firstCount (kindOf (x .kind)) (x .fields .v)) first) (take (secondCount (kindOf (x .kind)) (x .fields .v)) second)) at p)

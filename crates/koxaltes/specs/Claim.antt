@@ -7,7 +7,7 @@ use Rattle.text.specs.Text.{lineOf}
 use Rattle.question.specs.declared.Refusal.{Refusal}
 use Rattle.bars.specs.declared.Group.{Group}
 use Rattle.member.specs.Member.{Member}
-use Rattle.reading.specs.Reading.{Reading, got}
+use Rattle.question.specs.Reading.{Reading, got}
 use Rattle.schedule.specs.Schedule.{schedule}
 use Rattle.checks.specs.Claim.{SafeLine}
 use Rattle.lent.specs.declared.Lent.{Lent}
@@ -21,7 +21,7 @@ use Rattle.told.specs.Told.{told}
 -- `koxaltes_report`, for all bytes and every buffer: the answer, the whole buffer afterwards, and demand 3 of the text in it.
 pub record ReportTold (src before after : List ℕ) (r : Told) : Type 0 where
   pub answer-is : r ≡ told (answered 0 (reportOf src) (length before))
-  pub buffer-is : after ≡ bufferAfter (reportOf src) before
+  pub buffer-is : after ≡ bufferAfter 0 (reportOf src) before
   pub claim : (ms : List Member) → schedule src ≡ got ms → r .question ≡ 0 → SafeReport ms (take (r .length) after)
 
 -- the line of a lent member that is accepted; every refusal names member 1
@@ -31,5 +31,5 @@ lentReportOf x first second = lineOrNo (lentVerdict x first second) (lentMember 
 -- `koxaltes_member_report`, of a member m whose line, or refusal, is `line`.
 pub record MemberTold (line : Reading Refusal (List ℕ)) (m : Member) (before after : List ℕ) (r : Told) : Type 0 where
   pub answer-is : r ≡ told (answered 1 line (length before))
-  pub buffer-is : after ≡ bufferAfter line before
+  pub buffer-is : after ≡ bufferAfter 1 line before
   pub claim : r .question ≡ 0 → SafeLine m (lineOf 0 (take (r .length) after))

@@ -1,6 +1,5 @@
 // The lap of a mesh (5.3.7).
 ghost use mathlib.Core.Path.{_≡_};
-ghost use Prim.Native.Nat.{_≤_};
 ghost use Rattle.member.specs.Member.{meshOf};
 ghost use Rattle.member.specs.Accepted.{AcceptedMesh};
 ghost use Rattle.lap.specs.Steps.{lapRow, tensionLap, requiredLap, lapLength};
@@ -13,7 +12,7 @@ use quantity::larger;
 
 // The row of the lap: "with" cross bar if stacked or nested, "without" if flat.
 fn lap_row(lapping: u32) -> u32
-    ensures { λ r. ⌜ (r ≡ lapRow lapping) × (r ≤ 1) ⌝ }
+    ensures { λ r. ⌜ r ≡ lapRow lapping ⌝ }
 {
     if lapping == 1 { 1 } else { 0 }
 }
@@ -21,7 +20,7 @@ fn lap_row(lapping: u32) -> u32
 // 5.3.7 in tension, in hundred-thousandths of a millimetre.
 fn tension_lap(x: Mesh) -> u64
     requires { ⌜ AcceptedMesh (meshOf x) ⌝ }
-    ensures { λ r. ⌜ (r ≡ tensionLap (meshOf x)) × (r ≤ 208928000) ⌝ }
+    ensures { λ r. ⌜ r ≡ tensionLap (meshOf x) ⌝ }
 {
     let least = chosen(x.lapping == 1, 200, 300);
     let basic = basic_length(x, lap_row(x.lapping), 0);

@@ -21,7 +21,7 @@ use Rattle.quantity.proofs.Choice.{both-true}
 use Rattle.domain.specs.declared.Domain.{Domain}
 use Rattle.domain.specs.declared.Domain.the-variants.{Range, ZeroOr, Bar, Grade, Steel, LinkSteel, GroupDiameter, GroupBars}
 use Rattle.domain.specs.Domain.{holds, asked, fieldHolds}
-use Rattle.field.specs.Fields.{groups, beamFields, columnFields, meshFields, fieldsOf, known}
+use Rattle.field.specs.Fields.{tensionCount, compressionCount, columnCount, groups, beamFields, columnFields, meshFields}
 use Rattle.slots.specs.Slots.{fieldsHold}
 use Rattle.domain.proofs.Between.{in-between, a-bar}
 use Rattle.layout.specs.Layout.{slot, group, groupsAt, beamAt, columnAt}
@@ -109,19 +109,18 @@ module _ (v : List ℕ) (k : ℕ) where
 
 -- ---- A beam.
 
-module _ (v : List ℕ) (e : fieldsHold (fieldsOf 1) 0 v ≡ true) where
+module _ (v : List ℕ) (e : fieldsHold beamFields 0 v ≡ true) where
   -- field k
-  pub beam-held : (k : ℕ) → T (ltb k 37) → fieldHolds (getD beamFields k (Range 0 0)) k v ≡ true
-  unfolding fieldsOf
-  beam-held k h = hold-at beamFields v e k (ltb→lt k 37 h)
+  pub beam-held : (k : ℕ) → T (ltb k (length beamFields)) → fieldHolds (getD beamFields k (Range 0 0)) k v ≡ true
+  beam-held k h = hold-at beamFields v e k (ltb→lt k (length beamFields) h)
 
-  pub tension-accepted : AcceptedGroups (groupsAt v 8)
+  pub tension-accepted : AcceptedGroups (groupsAt v tensionCount)
   tension-accepted =
-      groups-accepted v 8 (beam-held 9 tt) (beam-held 10 tt) (beam-held 11 tt) (beam-held 12 tt) (beam-held 13 tt) (beam-held 14 tt) (beam-held 15 tt) (beam-held 16 tt)
+      groups-accepted v tensionCount (beam-held 9 tt) (beam-held 10 tt) (beam-held 11 tt) (beam-held 12 tt) (beam-held 13 tt) (beam-held 14 tt) (beam-held 15 tt) (beam-held 16 tt)
 
-  pub compression-accepted : AcceptedGroups (groupsAt v 17)
+  pub compression-accepted : AcceptedGroups (groupsAt v compressionCount)
   compression-accepted =
-      groups-accepted v 17 (beam-held 18 tt) (beam-held 19 tt) (beam-held 20 tt) (beam-held 21 tt) (beam-held 22 tt) (beam-held 23 tt) (beam-held 24 tt) (beam-held 25 tt)
+      groups-accepted v compressionCount (beam-held 18 tt) (beam-held 19 tt) (beam-held 20 tt) (beam-held 21 tt) (beam-held 22 tt) (beam-held 23 tt) (beam-held 24 tt) (beam-held 25 tt)
 
   pub beam-in-range : BeamInRange (beamAt v)
   unfolding beamAt
@@ -137,19 +136,18 @@ module _ (v : List ℕ) (e : fieldsHold (fieldsOf 1) 0 v ≡ true) where
       }
 
 -- the same of a beam, a column that are the slots'
-pub beam-in-range-of : {x : Beam} (v : List ℕ) → x ≡ beamAt v → fieldsHold (fieldsOf 1) 0 v ≡ true → BeamInRange x
+pub beam-in-range-of : {x : Beam} (v : List ℕ) → x ≡ beamAt v → fieldsHold beamFields 0 v ≡ true → BeamInRange x
 beam-in-range-of v p e = rw p (beam-in-range v e)
 
 -- ---- A column.
 
-module _ (v : List ℕ) (e : fieldsHold (fieldsOf 2) 0 v ≡ true) where
-  pub column-held : (k : ℕ) → T (ltb k 17) → fieldHolds (getD columnFields k (Range 0 0)) k v ≡ true
-  unfolding fieldsOf
-  column-held k h = hold-at columnFields v e k (ltb→lt k 17 h)
+module _ (v : List ℕ) (e : fieldsHold columnFields 0 v ≡ true) where
+  pub column-held : (k : ℕ) → T (ltb k (length columnFields)) → fieldHolds (getD columnFields k (Range 0 0)) k v ≡ true
+  column-held k h = hold-at columnFields v e k (ltb→lt k (length columnFields) h)
 
-  pub column-groups-accepted : AcceptedGroups (groupsAt v 4)
+  pub column-groups-accepted : AcceptedGroups (groupsAt v columnCount)
   column-groups-accepted =
-      groups-accepted v 4 (column-held 5 tt) (column-held 6 tt) (column-held 7 tt) (column-held 8 tt) (column-held 9 tt) (column-held 10 tt) (column-held 11 tt) (column-held 12 tt)
+      groups-accepted v columnCount (column-held 5 tt) (column-held 6 tt) (column-held 7 tt) (column-held 8 tt) (column-held 9 tt) (column-held 10 tt) (column-held 11 tt) (column-held 12 tt)
 
   pub column-groups-of : {x : Column} → x ≡ columnAt v → AcceptedGroups (x .groups)
   unfolding columnAt
@@ -157,20 +155,6 @@ module _ (v : List ℕ) (e : fieldsHold (fieldsOf 2) 0 v ≡ true) where
 
 -- ---- A mesh.
 
-module _ (v : List ℕ) (e : fieldsHold (fieldsOf 3) 0 v ≡ true) where
-  pub mesh-held : (k : ℕ) → T (ltb k 11) → fieldHolds (getD meshFields k (Range 0 0)) k v ≡ true
-  unfolding fieldsOf
-  mesh-held k h = hold-at meshFields v e k (ltb→lt k 11 h)
-
--- ---- A member of any kind.
-
-pub known-cases : (kind : ℕ) → known kind ≡ true → (kind ≡ 1) ⊎ ((kind ≡ 2) ⊎ (kind ≡ 3))
-unfolding known
-known-cases kind e = cases kind (in-between {lo = 1} {hi = 3} e)
-  where
-    cases : (k : ℕ) → (1 ≤ k) × (k ≤ 3) → (k ≡ 1) ⊎ ((k ≡ 2) ⊎ (k ≡ 3))
-    cases zero h = absurd (omega arith)
-    cases (suc zero) h = inl refl
-    cases (suc (suc zero)) h = inr (inl refl)
-    cases (suc (suc (suc zero))) h = inr (inr refl)
-    cases (suc (suc (suc (suc k)))) h = absurd (omega arith)
+module _ (v : List ℕ) (e : fieldsHold meshFields 0 v ≡ true) where
+  pub mesh-held : (k : ℕ) → T (ltb k (length meshFields)) → fieldHolds (getD meshFields k (Range 0 0)) k v ≡ true
+  mesh-held k h = hold-at meshFields v e k (ltb→lt k (length meshFields) h)

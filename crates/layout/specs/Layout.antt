@@ -1,10 +1,11 @@
 -- The fields of a member by name: slot i holds field i of its kind's table (crate `field`).
 use Prim.Native.Nat.{ℕ, _+_}
 use mathlib.Core.List.{List, [], _∷_}
-use lib.Dec.{eqb}
 use lib.ListN.{getD, take}
-use Rattle.quantity.specs.Choice.{if_then_else_}
 use Rattle.bars.specs.declared.Group.{Group}
+use Rattle.field.specs.declared.MemberKind.{MemberKind}
+use Rattle.field.specs.declared.MemberKind.the-variants as kinds
+use Rattle.field.specs.Fields.{tensionCount, compressionCount, beamLinks, columnCount, columnLinks}
 use Rattle.member.specs.Member.{Beam, Column, Mesh, Member, beam, column, mesh}
 
 abbrev pub slot : List ℕ → ℕ → ℕ
@@ -18,8 +19,9 @@ group v i = record { diameter = slot v i; bars = slot v (i + 1) }
 abbrev pub groupsAt : List ℕ → ℕ → List Group
 groupsAt v k = take (slot v k) (group v (k + 1) ∷ group v (k + 3) ∷ group v (k + 5) ∷ group v (k + 7) ∷ [])
 
-unfoldable pub beamAt : List ℕ → Beam
-beamAt v =
+-- A beam of these groups, whose other fields stand in slots: those before the groups from slot 0 on, those after them from slot i on.
+abbrev pub beamFrom : List ℕ → ℕ → List Group → List Group → Beam
+beamFrom v i tension compression =
     record {
       b = slot v 0;
       h = slot v 1;
@@ -29,34 +31,41 @@ beamAt v =
       a′ = slot v 5;
       concrete = slot v 6;
       steel = slot v 7;
-      tension = groupsAt v 8;
-      compression = groupsAt v 17;
-      link = slot v 26;
-      legs = slot v 27;
-      s = slot v 28;
-      linkSteel = slot v 29;
-      c = slot v 30;
-      l₀ = slot v 31;
-      M = slot v 32;
-      Mq = slot v 33;
-      Vd = slot v 34;
-      environment = slot v 35;
-      strict = slot v 36;
+      tension = tension;
+      compression = compression;
+      link = slot v i;
+      legs = slot v (i + 1);
+      s = slot v (i + 2);
+      linkSteel = slot v (i + 3);
+      c = slot v (i + 4);
+      l₀ = slot v (i + 5);
+      M = slot v (i + 6);
+      Mq = slot v (i + 7);
+      Vd = slot v (i + 8);
+      environment = slot v (i + 9);
+      strict = slot v (i + 10);
     }
 
-unfoldable pub columnAt : List ℕ → Column
-columnAt v =
+-- The same of a column.
+abbrev pub columnFrom : List ℕ → ℕ → List Group → Column
+columnFrom v i groups =
     record {
       b = slot v 0;
       h = slot v 1;
       concrete = slot v 2;
       steel = slot v 3;
-      groups = groupsAt v 4;
-      link = slot v 13;
-      s = slot v 14;
-      l₀ = slot v 15;
-      N = slot v 16;
+      groups = groups;
+      link = slot v i;
+      s = slot v (i + 1);
+      l₀ = slot v (i + 2);
+      N = slot v (i + 3);
     }
+
+unfoldable pub beamAt : List ℕ → Beam
+beamAt v = beamFrom v beamLinks (groupsAt v tensionCount) (groupsAt v compressionCount)
+
+unfoldable pub columnAt : List ℕ → Column
+columnAt v = columnFrom v columnLinks (groupsAt v columnCount)
 
 unfoldable pub meshAt : List ℕ → Mesh
 meshAt v =
@@ -74,9 +83,8 @@ meshAt v =
       lap = slot v 10;
     }
 
--- The member with this mark, this kind (1 to 3) and these slots.
-unfoldable pub memberAt : ℕ → ℕ → List ℕ → Member
-memberAt mark kind v =
-    if eqb kind 1 then beam mark (beamAt v)
-    else if eqb kind 2 then column mark (columnAt v)
-    else mesh mark (meshAt v)
+-- The member with this mark, this kind and these slots.
+unfoldable pub memberAt : ℕ → MemberKind → List ℕ → Member
+memberAt mark kinds.Beam v = beam mark (beamAt v)
+memberAt mark kinds.Column v = column mark (columnAt v)
+memberAt mark kinds.Mesh v = mesh mark (meshAt v)

@@ -6,6 +6,14 @@ ghost use lib.ListN.{getD};
 ghost use Rattle.member.specs.Member.{beamOf, columnOf, meshOf};
 ghost use Rattle.layout.specs.Layout.{group, beamAt, columnAt, meshAt};
 use bars::Group;
+use field::BEAM_LINKS;
+use field::COLUMN_COUNT;
+use field::COLUMN_GROUPS;
+use field::COLUMN_LINKS;
+use field::COMPRESSION_COUNT;
+use field::COMPRESSION_GROUPS;
+use field::TENSION_COUNT;
+use field::TENSION_GROUPS;
 use member::Beam;
 use member::Column;
 use member::Mesh;
@@ -69,11 +77,11 @@ pub fn beam_of(v: &[u32; 40]) -> Beam
         ac: length_at(v, 5),
         concrete: v[6],
         steel: v[7],
-        tensions: index(v[8]),
-        tension: groups_at(v, 9),
-        compressions: index(v[17]),
-        compression: groups_at(v, 18),
-        link: v[26],
+        tensions: index(v[TENSION_COUNT]),
+        tension: groups_at(v, TENSION_GROUPS),
+        compressions: index(v[COMPRESSION_COUNT]),
+        compression: groups_at(v, COMPRESSION_GROUPS),
+        link: v[BEAM_LINKS],
         legs: v[27],
         s: length_at(v, 28),
         linkSteel: v[29],
@@ -96,9 +104,9 @@ pub fn column_of(v: &[u32; 40]) -> Column
         h: length_at(v, 1),
         concrete: v[2],
         steel: v[3],
-        count: index(v[4]),
-        groups: groups_at(v, 5),
-        link: v[13],
+        count: index(v[COLUMN_COUNT]),
+        groups: groups_at(v, COLUMN_GROUPS),
+        link: v[COLUMN_LINKS],
         s: length_at(v, 14),
         span: length_at(v, 15),
         n: force_at(v, 16),

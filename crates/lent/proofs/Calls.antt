@@ -24,6 +24,7 @@ use denote.Triple.Statement.{Contract, Triple}
 use denote.Triple.Call.{calls-at}
 use denote.Triple.Spec.{tripleOf}
 use denote.Triple.Clauses.{ensured, lasts}
+use Rattle.field.specs.Fields.{kindOf}
 use Rattle.lent.specs.declared.Lent.{Lent}
 use Rattle.lent.specs.Lent.{firstCount, secondCount}
 use Rattle.lent.proofs.Lent as L
@@ -67,11 +68,11 @@ module _ {M : Type 1} (𝓤 : URA M) (H : Heap 𝓤) (A : Atoms 𝓤) (W : Given
 
     module _ {K : Type 0} {Γ : List (Item 𝓤)} {E : Env 𝓤 H} {C : Calls 𝓤 H} {Λ : Loops 𝓤 H} {xs : List Operand} {d : Place} {rest : Body} {p : Post 𝓤 H} where
       pub counts-first : K → FmC 𝓤 H (W .laws) C → Triple 𝓤 (C #lent·first-count) FirstCount → Opds K W (raw (FirstCount .pre to-count) ∷ Γ) E xs (v ∷ [])
-          → (firstCount (x .kind) (x .fields .v) < 2 ^ 64 → Seq K W Γ (lands C Λ E d (vint w64 (firstCount (x .kind) (x .fields .v))) rest p)) → Seq K W Γ (runs C Λ E (seq (call #lent·first-count xs d) rest) p)
-      counts-first t fm known = counts t fm FirstCount known to-count (firstCount (x .kind) (x .fields .v)) (ensured 𝓤 H A first.ended (first.clauses 𝓤 H A mem run) tt (x, tt) tt) goes-count (λ u. id⊢ 𝓤 _)
-          (λ n. exE 𝓤 _ (λ ws. snd∗ 𝓤 (sem 𝓤 H A (lasts first.ended tt (x, tt) ws)) (fact 𝓤 (n ≡ firstCount (x .kind) (x .fields .v)))))
+          → (firstCount (kindOf (x .kind)) (x .fields .v) < 2 ^ 64 → Seq K W Γ (lands C Λ E d (vint w64 (firstCount (kindOf (x .kind)) (x .fields .v))) rest p)) → Seq K W Γ (runs C Λ E (seq (call #lent·first-count xs d) rest) p)
+      counts-first t fm known = counts t fm FirstCount known to-count (firstCount (kindOf (x .kind)) (x .fields .v)) (ensured 𝓤 H A first.ended (first.clauses 𝓤 H A mem run) tt (x, tt) tt) goes-count (λ u. id⊢ 𝓤 _)
+          (λ n. exE 𝓤 _ (λ ws. snd∗ 𝓤 (sem 𝓤 H A (lasts first.ended tt (x, tt) ws)) (fact 𝓤 (n ≡ firstCount (kindOf (x .kind)) (x .fields .v)))))
 
       pub counts-second : K → FmC 𝓤 H (W .laws) C → Triple 𝓤 (C #lent·second-count) SecondCount → Opds K W (raw (SecondCount .pre to-count) ∷ Γ) E xs (v ∷ [])
-          → (secondCount (x .kind) (x .fields .v) < 2 ^ 64 → Seq K W Γ (lands C Λ E d (vint w64 (secondCount (x .kind) (x .fields .v))) rest p)) → Seq K W Γ (runs C Λ E (seq (call #lent·second-count xs d) rest) p)
-      counts-second t fm known = counts t fm SecondCount known to-count (secondCount (x .kind) (x .fields .v)) (ensured 𝓤 H A second.ended (second.clauses 𝓤 H A mem run) tt (x, tt) tt) goes-count (λ u. id⊢ 𝓤 _)
-          (λ n. exE 𝓤 _ (λ ws. snd∗ 𝓤 (sem 𝓤 H A (lasts second.ended tt (x, tt) ws)) (fact 𝓤 (n ≡ secondCount (x .kind) (x .fields .v)))))
+          → (secondCount (kindOf (x .kind)) (x .fields .v) < 2 ^ 64 → Seq K W Γ (lands C Λ E d (vint w64 (secondCount (kindOf (x .kind)) (x .fields .v))) rest p)) → Seq K W Γ (runs C Λ E (seq (call #lent·second-count xs d) rest) p)
+      counts-second t fm known = counts t fm SecondCount known to-count (secondCount (kindOf (x .kind)) (x .fields .v)) (ensured 𝓤 H A second.ended (second.clauses 𝓤 H A mem run) tt (x, tt) tt) goes-count (λ u. id⊢ 𝓤 _)
+          (λ n. exE 𝓤 _ (λ ws. snd∗ 𝓤 (sem 𝓤 H A (lasts second.ended tt (x, tt) ws)) (fact 𝓤 (n ≡ secondCount (kindOf (x .kind)) (x .fields .v)))))

@@ -1,12 +1,10 @@
 -- The slots into which a lent member is put hold that member, and the questions put to them are its own.
-use Prim.Native.Nat.{ℕ, zero, suc, _+_, _≤_, _<_}
+use Prim.Native.Nat.{ℕ, zero, suc, _≤_, _<_}
 use mathlib.Core.Path.{_≡_, refl, sym, ap, ap₂, _∙_}
 use mathlib.Core.Bool.{Bool, true, false, _&&_}
-use mathlib.Core.List.{List, [], _∷_, _++_}
-use mathlib.Core.Logic.{⊎-elim}
-use native.Mathlib.Nat.{add-zero}
+use mathlib.Core.List.{List, [], _∷_}
 use native.Mathlib.Omega.{arith}
-use lib.Dec.{ltb, eqb, ltb→lt}
+use lib.Dec.{ltb, ltb→lt}
 use lib.ListN.{length, getD, take, drop}
 use borrow.Author.Tests.{lt-ltb, le-leb}
 use Rattle.quantity.specs.Choice.{if_then_else_}
@@ -18,19 +16,23 @@ use Rattle.domain.specs.declared.Domain.{Domain}
 use Rattle.domain.specs.declared.Domain.the-variants.{Range, GroupDiameter, GroupBars}
 use Rattle.domain.specs.Domain.{groupDiameter, groupBars, holds, asked, fieldHolds}
 use Rattle.domain.proofs.Between.{in-between}
-use Rattle.field.specs.Fields.{groups, beamFields, columnFields, meshFields, fieldsOf, known}
+use Rattle.field.specs.declared.MemberKind.{MemberKind}
+use Rattle.field.specs.declared.MemberKind.the-variants as kinds
+use Rattle.field.specs.Fields.{groups, beamFields, columnFields, meshFields, known, kindOf, fieldsOf}
 use Rattle.slots.specs.Slots.{fieldsHold}
-use Rattle.layout.specs.Layout.{beamAt, columnAt, meshAt, memberAt}
-use Rattle.layout.proofs.Held.{hold-at, known-cases}
+use Rattle.slots.proofs.Joined.{holds-append}
+use Rattle.layout.specs.Layout.{slot, beamAt, columnAt, meshAt, memberAt}
+use Rattle.layout.proofs.Held.{hold-at}
 use Rattle.built.specs.declared.Built.{Built}
-use Rattle.built.specs.declared.Verdict.the-variants.{Accepted}
-use Rattle.built.specs.Verdict.{ask, markInRange, verdictOf, memberVerdict, builtVerdict}
+use Rattle.question.specs.declared.Verdict.{Verdict}
+use Rattle.question.specs.declared.Verdict.the-variants.{Accepted}
+use Rattle.built.specs.Verdict.{ask, markInRange, verdictOf, memberVerdict, fieldsVerdict, builtVerdict}
 use Rattle.built.proofs.Accepted.{asked-yes}
 use Rattle.lists.specs.Lists.{groupHolds, groupsHold, namedHold}
-use Rattle.lists.specs.Copied.{noGroup}
+use Rattle.lists.specs.Copied.{noGroup, four}
 use Rattle.lists.proofs.Named.{named-groups, named-hold}
 use Rattle.lent.specs.declared.Lent.{Lent}
-use Rattle.lent.specs.Lent.{given, lentBeam, lentColumn, lentMember, ungrouped, firstCount, secondCount, lentFieldsHold, lentVerdict}
+use Rattle.lent.specs.Lent.{lentBeam, lentColumn, lentOf, lentMember, ungrouped, firstCount, secondCount, lentFieldsHold, lentVerdict}
 use Rattle.lent.specs.Slots.{beamSlots, columnSlots, meshSlots, filled, lentSlots, builtOf}
 
 -- ---- Tests in another order.
@@ -52,16 +54,10 @@ group-last true a r = and-comm a r ∙ ap (λ (b : Bool). r && b) (sym (and-true
 
 -- ---- Question 7 of a table of fields in parts.
 
-fields-split : (ds es : List Domain) (i : ℕ) (v : List ℕ) → fieldsHold (ds ++ es) i v ≡ (fieldsHold ds i v && fieldsHold es (i + length ds) v)
-fields-split [] es i v = rw (add-zero i)
-fields-split (d ∷ ds) es i v =
-    let e : i + 1 + length ds ≡ i + suc (length ds) = omega arith in
-    ap (λ (b : Bool). fieldHolds d i v && b) (rw (← e) (fields-split ds es (i + 1) v)) ∙ sym (and-assoc (fieldHolds d i v) _ _)
-
 -- a field that is a count up to 4
-at-most-four : (fs : List Domain) (lo k : ℕ) (v : List ℕ) → fieldsHold fs 0 v ≡ true → k < length fs → getD fs k (Range 0 0) ≡ Range lo 4 → given v k ≤ 4
+at-most-four : (fs : List Domain) (lo k : ℕ) (v : List ℕ) → fieldsHold fs 0 v ≡ true → k < length fs → getD fs k (Range 0 0) ≡ Range lo 4 → slot v k ≤ 4
 unfolding fieldHolds asked holds
-at-most-four fs lo k v e h d = in-between {lo = lo} {hi = 4} {x = given v k} (rw d at (hold-at fs v e k h)) .1
+at-most-four fs lo k v e h d = in-between {lo = lo} {hi = 4} {x = slot v k} (rw d at (hold-at fs v e k h)) .1
 
 -- one group's two fields, of the list whose count n stands in slot k, asked where its place is below the count
 abbrev asks : ℕ → ℕ → ℕ → Group → Bool → Bool
@@ -99,40 +95,40 @@ none-named list = rw (le-leb 0 (length list) (omega arith))
 
 module _ (v : List ℕ) (first second : List Group) where
   beam-slots : List ℕ
-  beam-slots = filled (beamSlots v (take (given v 8) first) (take (given v 9) second))
+  beam-slots = filled (beamSlots v (take (slot v 8) first) (take (slot v 9) second))
 
   column-slots : List ℕ
-  column-slots = filled (columnSlots v (take (given v 4) first))
+  column-slots = filled (columnSlots v (take (slot v 4) first))
 
-  tension-most : fieldsHold (take 9 beamFields) 0 v ≡ true → given v 8 ≤ 4
+  tension-most : fieldsHold (take 9 beamFields) 0 v ≡ true → slot v 8 ≤ 4
   tension-most p = at-most-four (take 9 beamFields) 1 8 v p (ltb→lt 8 9 tt) refl
 
-  compression-most : holds (Range 0 4) (given v 9) ≡ true → given v 9 ≤ 4
+  compression-most : holds (Range 0 4) (slot v 9) ≡ true → slot v 9 ≤ 4
   unfolding holds
   compression-most q = in-between {lo = 0} {hi = 4} q .1
 
-  column-most : fieldsHold (take 5 columnFields) 0 v ≡ true → given v 4 ≤ 4
+  column-most : fieldsHold (take 5 columnFields) 0 v ≡ true → slot v 4 ≤ 4
   column-most p = at-most-four (take 5 columnFields) 1 4 v p (ltb→lt 4 5 tt) refl
 
-  beam-holds : fieldsHold beamFields 0 beam-slots ≡ (fieldsHold (ungrouped beamFields) 0 v && (namedHold (given v 8) first && namedHold (given v 9) second))
+  beam-holds : fieldsHold beamFields 0 beam-slots ≡ (fieldsHold (ungrouped beamFields) 0 v && (namedHold (slot v 8) first && namedHold (slot v 9) second))
   unfolding fieldHolds asked beam-slots
   beam-holds =
-      fields-split (take 9 beamFields) (drop 9 beamFields) 0 beam-slots
+      holds-append (take 9 beamFields) (drop 9 beamFields) 0 beam-slots
       ∙ where-first (fieldsHold (take 9 beamFields) 0 v)
-      (λ p. fields-split (groups 8) (drop 17 beamFields) 9 beam-slots ∙ ap₂ _&&_ (list-holds 8 (given v 8) first (tension-most p))
-      (where-first (holds (Range 0 4) (given v 9))
-      (λ q. fields-split (groups 17) (drop 26 beamFields) 18 beam-slots ∙ ap (λ (b : Bool). b && fieldsHold (drop 26 beamFields) 10 v) (list-holds 17 (given v 9) second (compression-most q)))))
-      ∙ groups-last (fieldsHold (take 9 beamFields) 0 v) (namedHold (given v 8) first) (holds (Range 0 4) (given v 9)) (namedHold (given v 9) second) (fieldsHold (drop 26 beamFields) 10 v)
-      ∙ ap (λ (b : Bool). b && (namedHold (given v 8) first && namedHold (given v 9) second)) (sym (fields-split (take 9 beamFields) (drop 9 (ungrouped beamFields)) 0 v))
+      (λ p. holds-append (groups 8) (drop 17 beamFields) 9 beam-slots ∙ ap₂ _&&_ (list-holds 8 (slot v 8) first (tension-most p))
+      (where-first (holds (Range 0 4) (slot v 9))
+      (λ q. holds-append (groups 17) (drop 26 beamFields) 18 beam-slots ∙ ap (λ (b : Bool). b && fieldsHold (drop 26 beamFields) 10 v) (list-holds 17 (slot v 9) second (compression-most q)))))
+      ∙ groups-last (fieldsHold (take 9 beamFields) 0 v) (namedHold (slot v 8) first) (holds (Range 0 4) (slot v 9)) (namedHold (slot v 9) second) (fieldsHold (drop 26 beamFields) 10 v)
+      ∙ ap (λ (b : Bool). b && (namedHold (slot v 8) first && namedHold (slot v 9) second)) (sym (holds-append (take 9 beamFields) (drop 9 (ungrouped beamFields)) 0 v))
 
-  column-holds : fieldsHold columnFields 0 column-slots ≡ (fieldsHold (ungrouped columnFields) 0 v && (namedHold (given v 4) first && namedHold 0 second))
+  column-holds : fieldsHold columnFields 0 column-slots ≡ (fieldsHold (ungrouped columnFields) 0 v && (namedHold (slot v 4) first && namedHold 0 second))
   unfolding fieldHolds asked column-slots
   column-holds =
-      fields-split (take 5 columnFields) (drop 5 columnFields) 0 column-slots
+      holds-append (take 5 columnFields) (drop 5 columnFields) 0 column-slots
       ∙ where-first (fieldsHold (take 5 columnFields) 0 v)
-      (λ p. fields-split (groups 4) (drop 13 columnFields) 5 column-slots ∙ ap (λ (b : Bool). b && fieldsHold (drop 13 columnFields) 5 v) (list-holds 4 (given v 4) first (column-most p)))
-      ∙ group-last (fieldsHold (take 5 columnFields) 0 v) (namedHold (given v 4) first) (fieldsHold (drop 13 columnFields) 5 v)
-      ∙ ap₂ (λ (b c : Bool). b && (namedHold (given v 4) first && c)) (sym (fields-split (take 5 columnFields) (drop 5 (ungrouped columnFields)) 0 v)) (sym (none-named second))
+      (λ p. holds-append (groups 4) (drop 13 columnFields) 5 column-slots ∙ ap (λ (b : Bool). b && fieldsHold (drop 13 columnFields) 5 v) (list-holds 4 (slot v 4) first (column-most p)))
+      ∙ group-last (fieldsHold (take 5 columnFields) 0 v) (namedHold (slot v 4) first) (fieldsHold (drop 13 columnFields) 5 v)
+      ∙ ap₂ (λ (b c : Bool). b && (namedHold (slot v 4) first && c)) (sym (holds-append (take 5 columnFields) (drop 5 (ungrouped columnFields)) 0 v)) (sym (none-named second))
 
   mesh-holds : fieldsHold meshFields 0 (filled (meshSlots v)) ≡ (fieldsHold (ungrouped meshFields) 0 v && (namedHold 0 first && namedHold 0 second))
   unfolding fieldHolds asked
@@ -140,21 +136,21 @@ module _ (v : List ℕ) (first second : List Group) where
 
   -- ---- The member of each kind, where question 7 holds.
 
-  beam-is : (fieldsHold (ungrouped beamFields) 0 v && (namedHold (given v 8) first && namedHold (given v 9) second)) ≡ true → beamAt beam-slots ≡ lentBeam v first second
+  beam-is : (fieldsHold (ungrouped beamFields) 0 v && (namedHold (slot v 8) first && namedHold (slot v 9) second)) ≡ true → beamAt beam-slots ≡ lentBeam v first second
   unfolding beamAt lentBeam beam-slots fieldHolds asked
   beam-is e =
       let f = both-true (fieldsHold (ungrouped beamFields) 0 v) _ e in
-      let n = both-true (namedHold (given v 8) first) _ (f .1) in
-      let p = both-true (fieldsHold (take 9 beamFields) 0 v) _ (sym (fields-split (take 9 beamFields) (drop 9 (ungrouped beamFields)) 0 v) ∙ f .0) in
-      let q = both-true (holds (Range 0 4) (given v 9)) _ (p .1) in
-      rw (named-groups (given v 8) first (tension-most (p .0)) (n .0), named-groups (given v 9) second (compression-most (q .0)) (n .1))
+      let n = both-true (namedHold (slot v 8) first) _ (f .1) in
+      let p = both-true (fieldsHold (take 9 beamFields) 0 v) _ (sym (holds-append (take 9 beamFields) (drop 9 (ungrouped beamFields)) 0 v) ∙ f .0) in
+      let q = both-true (holds (Range 0 4) (slot v 9)) _ (p .1) in
+      rw (named-groups (slot v 8) first (tension-most (p .0)) (n .0), named-groups (slot v 9) second (compression-most (q .0)) (n .1))
 
-  column-is : (fieldsHold (ungrouped columnFields) 0 v && (namedHold (given v 4) first && namedHold 0 second)) ≡ true → columnAt column-slots ≡ lentColumn v first
+  column-is : (fieldsHold (ungrouped columnFields) 0 v && (namedHold (slot v 4) first && namedHold 0 second)) ≡ true → columnAt column-slots ≡ lentColumn v first
   unfolding columnAt lentColumn column-slots fieldHolds asked
   column-is e =
       let f = both-true (fieldsHold (ungrouped columnFields) 0 v) _ e in
-      let p = both-true (fieldsHold (take 5 columnFields) 0 v) _ (sym (fields-split (take 5 columnFields) (drop 5 (ungrouped columnFields)) 0 v) ∙ f .0) in
-      rw (named-groups (given v 4) first (column-most (p .0)) (both-true (namedHold (given v 4) first) _ (f .1) .0))
+      let p = both-true (fieldsHold (take 5 columnFields) 0 v) _ (sym (holds-append (take 5 columnFields) (drop 5 (ungrouped columnFields)) 0 v) ∙ f .0) in
+      rw (named-groups (slot v 4) first (column-most (p .0)) (both-true (namedHold (slot v 4) first) _ (f .1) .0))
 
   mesh-is : meshAt (filled (meshSlots v)) ≡ meshAt v
   unfolding meshAt
@@ -163,16 +159,46 @@ module _ (v : List ℕ) (first second : List Group) where
 -- ---- A member of any kind.
 
 -- a mark has no part in questions 8 to 10
-mark-free : (mark kind : ℕ) (v : List ℕ) → verdictOf (memberAt 0 kind v) ≡ verdictOf (memberAt mark kind v)
+mark-free : (mark : ℕ) (kind : MemberKind) (v : List ℕ) → verdictOf (memberAt 0 kind v) ≡ verdictOf (memberAt mark kind v)
 unfolding memberAt
-mark-free mark kind v = of-kind (eqb kind 1) (eqb kind 2)
-  where
-    of-kind : (a b : Bool)
-        → verdictOf (if a then beam 0 (beamAt v) else if b then column 0 (columnAt v) else mesh 0 (meshAt v))
-        ≡ verdictOf (if a then beam mark (beamAt v) else if b then column mark (columnAt v) else mesh mark (meshAt v))
-    of-kind true b = refl
-    of-kind false true = refl
-    of-kind false false = refl
+mark-free mark kinds.Beam v = refl
+mark-free mark kinds.Column v = refl
+mark-free mark kinds.Mesh v = refl
+
+module _ (v : List ℕ) (first second : List Group) where
+  -- the slots as the code fills them, with the groups that the counts name
+  abbrev slotsOf : MemberKind → List ℕ
+  slotsOf kind = lentSlots kind v (take (firstCount kind v) first) (take (secondCount kind v) second)
+
+  fields-hold : (kind : MemberKind) → fieldsHold (fieldsOf kind) 0 (slotsOf kind) ≡ lentFieldsHold kind v first second
+  unfolding lentSlots lentFieldsHold fieldsOf beam-slots column-slots
+  fields-hold kinds.Beam = beam-holds v first second
+  fields-hold kinds.Column = column-holds v first second
+  fields-hold kinds.Mesh = mesh-holds v first second
+
+  member-is : (mark : ℕ) (kind : MemberKind) → lentFieldsHold kind v first second ≡ true → memberAt mark kind (slotsOf kind) ≡ lentOf kind mark v first second
+  unfolding lentSlots lentFieldsHold fieldsOf beam-slots column-slots memberAt
+  member-is mark kinds.Beam e = ap (beam mark) (beam-is v first second e)
+  member-is mark kinds.Column e = ap (column mark) (column-is v first second e)
+  member-is mark kinds.Mesh e = ap (mesh mark) (mesh-is v first second)
+
+  -- 7 to 10
+  verdict-is : (mark : ℕ) (kind : MemberKind)
+      → fieldsVerdict kind (slotsOf kind) ≡ ask Field (lentFieldsHold kind v first second) (verdictOf (lentOf kind mark v first second))
+  unfolding fieldsVerdict memberVerdict
+  verdict-is mark kind = rw (fields-hold kind) (of-fields (lentFieldsHold kind v first second) refl)
+    where
+      of-fields : (b : Bool) → lentFieldsHold kind v first second ≡ b
+          → ask Field b (verdictOf (memberAt 0 kind (slotsOf kind))) ≡ ask Field b (verdictOf (lentOf kind mark v first second))
+      of-fields true e = mark-free mark kind (slotsOf kind) ∙ ap verdictOf (member-is mark kind e)
+      of-fields false e = refl
+
+-- copying the groups out once more changes nothing
+pub slots-again : (kind : MemberKind) (v : List ℕ) (first second : List Group) → lentSlots kind v (four first) (four second) ≡ lentSlots kind v first second
+unfolding lentSlots
+slots-again kinds.Beam v first second = refl
+slots-again kinds.Column v first second = refl
+slots-again kinds.Mesh v first second = refl
 
 module _ (x : Lent) (first second : List Group) where
   abbrev v : List ℕ
@@ -180,48 +206,21 @@ module _ (x : Lent) (first second : List Group) where
 
   -- the member as the code builds it, of the groups that the counts name, and its slots
   abbrev pub copied : Built
-  copied = builtOf x (take (firstCount (x .kind) v) first) (take (secondCount (x .kind) v) second)
+  copied = builtOf x (take (firstCount (kindOf (x .kind)) v) first) (take (secondCount (kindOf (x .kind)) v) second)
 
   abbrev pub slots : List ℕ
   slots = copied .fields .v
 
-  fields-hold : known (x .kind) ≡ true → fieldsHold (fieldsOf (x .kind)) 0 slots ≡ lentFieldsHold (x .kind) v first second
-  unfolding lentSlots lentFieldsHold fieldsOf beam-slots column-slots
-  fields-hold k =
-      ⊎-elim
-      (λ p. rw p (beam-holds v first second))
-      (λ q. ⊎-elim (λ p. rw p (column-holds v first second)) (λ p. rw p (mesh-holds v first second)) q)
-      (known-cases (x .kind) k)
-
-  member-is : known (x .kind) ≡ true → lentFieldsHold (x .kind) v first second ≡ true → memberAt (x .mark) (x .kind) slots ≡ lentMember x first second
-  unfolding lentSlots lentFieldsHold fieldsOf beam-slots column-slots memberAt lentMember
-  member-is k e =
-      ⊎-elim
-      (λ p. rw p (ap (beam (x .mark)) (beam-is v first second (rw p at e))))
-      (λ q. ⊎-elim (λ p. rw p (ap (column (x .mark)) (column-is v first second (rw p at e)))) (λ p. rw p (ap (mesh (x .mark)) (mesh-is v first second))) q)
-      (known-cases (x .kind) k)
-
   -- the questions of the slots are those of the lent member
   pub lent-verdict : builtVerdict (x .mark) (x .kind) slots ≡ lentVerdict x first second
-  unfolding builtVerdict lentVerdict memberVerdict
-  lent-verdict = ap (ask Mark (markInRange (x .mark))) (of-kind (known (x .kind)) refl)
-    where
-      of-fields : (b : Bool) → lentFieldsHold (x .kind) v first second ≡ b → known (x .kind) ≡ true
-          → ask Field b (verdictOf (memberAt 0 (x .kind) slots)) ≡ ask Field b (verdictOf (lentMember x first second))
-      of-fields true e k = mark-free (x .mark) (x .kind) slots ∙ ap verdictOf (member-is k e)
-      of-fields false e k = refl
-
-      of-kind : (b : Bool) → known (x .kind) ≡ b
-          → ask Kind b (ask Field (fieldsHold (fieldsOf (x .kind)) 0 slots) (verdictOf (memberAt 0 (x .kind) slots)))
-          ≡ ask Kind b (ask Field (lentFieldsHold (x .kind) v first second) (verdictOf (lentMember x first second)))
-      of-kind true k = rw (fields-hold k) (of-fields (lentFieldsHold (x .kind) v first second) refl k)
-      of-kind false k = refl
+  unfolding builtVerdict lentVerdict lentMember
+  lent-verdict = ap (λ (t : Verdict). ask Mark (markInRange (x .mark)) (ask Kind (known (x .kind)) t)) (verdict-is v first second (x .mark) (kindOf (x .kind)))
 
   -- an accepted member is the one in the slots
-  pub lent-member : builtVerdict (x .mark) (x .kind) slots ≡ Accepted → memberAt (x .mark) (x .kind) slots ≡ lentMember x first second
-  unfolding builtVerdict
+  pub lent-member : builtVerdict (x .mark) (x .kind) slots ≡ Accepted → memberAt (x .mark) (kindOf (x .kind)) slots ≡ lentMember x first second
+  unfolding builtVerdict fieldsVerdict lentMember
   lent-member a =
       let m = asked-yes Mark (markInRange (x .mark)) _ a in
       let k = asked-yes Kind (known (x .kind)) _ (m .1) in
-      let f = asked-yes Field (fieldsHold (fieldsOf (x .kind)) 0 slots) _ (k .1) in
-      member-is (k .0) (sym (fields-hold (k .0)) ∙ f .0)
+      let f = asked-yes Field (fieldsHold (fieldsOf (kindOf (x .kind))) 0 slots) _ (k .1) in
+      member-is v first second (x .mark) (kindOf (x .kind)) (sym (fields-hold v first second (kindOf (x .kind))) ∙ f .0)

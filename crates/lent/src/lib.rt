@@ -3,11 +3,25 @@ ghost use mathlib.Core.Path.{_≡_};
 ghost use Prim.Native.Nat.{_+_, _≤_};
 ghost use lib.ListN.{set};
 ghost use lib.Seq.{sets};
+ghost use Rattle.field.specs.Fields.{kindOf};
 ghost use Rattle.lists.specs.Copied.{four};
 ghost use Rattle.lent.specs.Lent.{firstCount, secondCount};
 ghost use Rattle.lent.specs.Slots.{flat, part, beamSlots, columnSlots, meshSlots, filled, lentSlots, builtOf};
 use bars::Group;
 use built::Built;
+use field::BEAM_FIELDS;
+use field::BEAM_LINKS;
+use field::COLUMN_COUNT;
+use field::COLUMN_FIELDS;
+use field::COLUMN_GROUPS;
+use field::COLUMN_LINKS;
+use field::COMPRESSION_COUNT;
+use field::COMPRESSION_GROUPS;
+use field::MESH_FIELDS;
+use field::MemberKind;
+use field::TENSION_COUNT;
+use field::TENSION_GROUPS;
+use field::kind_of;
 use layout::index;
 use slots::Slots;
 
@@ -25,30 +39,36 @@ pub struct Lent {
     pub fields: Fields,
 }
 
+// Places among them: the count of a beam's compression groups, and the first field after the groups of a beam and of a column.
+const COMPRESSION_COUNT_GIVEN: usize = 9;
+
+const BEAM_LINKS_GIVEN: usize = 10;
+
+const COLUMN_LINKS_GIVEN: usize = 5;
+
 // How many groups of the first list the counts name: a beam's in tension, a column's.
 pub fn first_count(x: Lent) -> usize
-    ensures { λ r. ⌜ r ≡ firstCount (x .kind) (x .fields .v) ⌝ }
+    ensures { λ r. ⌜ r ≡ firstCount (kindOf (x .kind)) (x .fields .v) ⌝ }
 {
     let f = x.fields;
     let v = f.v;
-    let kind = x.kind;
-    match kind {
-        1 => index(v[8]),
-        2 => index(v[4]),
-        _ => 0,
+    match kind_of(x.kind) {
+        MemberKind::Beam => index(v[TENSION_COUNT]),
+        MemberKind::Column => index(v[COLUMN_COUNT]),
+        MemberKind::Mesh => 0,
     }
 }
 
 // How many groups of the second list: a beam's in compression.
 pub fn second_count(x: Lent) -> usize
-    ensures { λ r. ⌜ r ≡ secondCount (x .kind) (x .fields .v) ⌝ }
+    ensures { λ r. ⌜ r ≡ secondCount (kindOf (x .kind)) (x .fields .v) ⌝ }
 {
     let f = x.fields;
     let v = f.v;
-    let kind = x.kind;
-    match kind {
-        1 => index(v[9]),
-        _ => 0,
+    match kind_of(x.kind) {
+        MemberKind::Beam => index(v[COMPRESSION_COUNT_GIVEN]),
+        MemberKind::Column => 0,
+        MemberKind::Mesh => 0,
     }
 }
 
@@ -97,10 +117,11 @@ fn beam_slots(x: Fields, first: [Group; 4], second: [Group; 4]) -> Slots
 {
     let none = Slots { v: [0; 40] };
     let a = put_fields(none, 0, x, 0, 9);
-    let b = put_groups(a, 9, first);
-    let c = put_fields(b, 17, x, 9, 1);
-    let d = put_groups(c, 18, second);
-    put_fields(d, 26, x, 10, 11)
+    let b = put_groups(a, TENSION_GROUPS, first);
+    let c = put_fields(b, COMPRESSION_COUNT, x, COMPRESSION_COUNT_GIVEN, 1);
+    let d = put_groups(c, COMPRESSION_GROUPS, second);
+    let rest = BEAM_FIELDS - BEAM_LINKS;
+    put_fields(d, BEAM_LINKS, x, BEAM_LINKS_GIVEN, rest)
 }
 
 fn column_slots(x: Fields, first: [Group; 4]) -> Slots
@@ -108,24 +129,25 @@ fn column_slots(x: Fields, first: [Group; 4]) -> Slots
 {
     let none = Slots { v: [0; 40] };
     let a = put_fields(none, 0, x, 0, 5);
-    let b = put_groups(a, 5, first);
-    put_fields(b, 13, x, 5, 4)
+    let b = put_groups(a, COLUMN_GROUPS, first);
+    let rest = COLUMN_FIELDS - COLUMN_LINKS;
+    put_fields(b, COLUMN_LINKS, x, COLUMN_LINKS_GIVEN, rest)
 }
 
 fn mesh_slots(x: Fields) -> Slots
     ensures { λ r. ⌜ r .v ≡ filled (meshSlots (x .v)) ⌝ }
 {
     let none = Slots { v: [0; 40] };
-    put_fields(none, 0, x, 0, 11)
+    put_fields(none, 0, x, 0, MESH_FIELDS)
 }
 
-fn slots_of(kind: u32, x: Fields, first: [Group; 4], second: [Group; 4]) -> Slots
+fn slots_of(kind: MemberKind, x: Fields, first: [Group; 4], second: [Group; 4]) -> Slots
     ensures { λ r. ⌜ r .v ≡ lentSlots kind (x .v) first second ⌝ }
 {
     match kind {
-        1 => beam_slots(x, first, second),
-        2 => column_slots(x, first),
-        _ => mesh_slots(x),
+        MemberKind::Beam => beam_slots(x, first, second),
+        MemberKind::Column => column_slots(x, first),
+        MemberKind::Mesh => mesh_slots(x),
     }
 }
 
@@ -134,7 +156,7 @@ pub fn built_from(x: Lent, first: [Group; 4], second: [Group; 4]) -> Built
     ensures { λ r. ⌜ r ≡ builtOf x first second ⌝ }
 {
     let f = x.fields;
-    let fields = slots_of(x.kind, f, first, second);
+    let fields = slots_of(kind_of(x.kind), f, first, second);
     Built {
         mark: x.mark,
         kind: x.kind,

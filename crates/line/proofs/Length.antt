@@ -4,8 +4,8 @@ use mathlib.Core.Path.{_≡_}
 use mathlib.Core.List.{List, [], _∷_}
 use native.Mathlib.Omega.{arith}
 use lib.ListN.{length, length-append}
+use Rattle.quantity.specs.All.{All}
 use Rattle.text.specs.Text.{textOf, endedBy}
-use Rattle.text.proofs.All.{All, all-none, all-and}
 use Rattle.text.proofs.Decimal.{decimal-short}
 use Rattle.outcome.specs.declared.Figure.{Figure}
 use Rattle.outcome.specs.declared.Figure.the-variants.{Reached, Unreached}
@@ -50,7 +50,7 @@ refusal-short j k question member p q h g =
     rw (length-more, length-more, length-more, length-last) (omega (arith, decimal-short j question p h, decimal-short k member q g))
 
 -- lines of at most n bytes each
-pub text-short : (n : ℕ) {ls : List (List (List ℕ))} → All (λ l. length (lineText l) ≤ n) ls → length (textOf ls) ≤ length ls * n
+pub text-short : (n : ℕ) (ls : List (List (List ℕ))) → All (λ l. length (lineText l) ≤ n) ls → length (textOf ls) ≤ length ls * n
 unfolding textOf endedBy
-text-short n all-none = omega arith
-text-short n (all-and {b = l} {s = ls} p a) = rw (text-append (l ∷ []) ls, length-append) (omega (arith, text-short n a))
+text-short n [] a = omega arith
+text-short n (l ∷ ls) a = rw (text-append (l ∷ []) ls, length-append) (omega (arith, a .0, text-short n ls (a .1)))

@@ -4,8 +4,10 @@ use mathlib.Core.Path.{_≡_, refl, ap, _∙_}
 use mathlib.Core.List.{List, [], _∷_, map}
 use native.Mathlib.Omega.{arith}
 use lib.ListN.{length, getD}
+use Rattle.quantity.specs.All.{All}
+use Rattle.quantity.proofs.All.{all-images}
 use Rattle.text.specs.Text.{every, isDecimal, valueOf, joinedBy, textOf, lineOf, wordOf}
-use Rattle.text.proofs.All.{All, all-none, all-and, all-map, Graphic, graphic}
+use Rattle.text.proofs.Bytes.{Graphic, graphic}
 use Rattle.text.proofs.Decimal.{decimal-is, decimal-value, decimal-graphic}
 use Rattle.text.proofs.Split.{read-word, read-line, read-back}
 use Rattle.outcome.specs.declared.Figure.{Figure}
@@ -24,16 +26,14 @@ figure-graphic (Reached v) = decimal-graphic v
 figure-graphic Unreached = graphic (45 ∷ []) refl
 
 pub line-graphic : (mark : ℕ) (o : Outcome) → All (All Graphic) (lineWords mark o)
-line-graphic mark o =
-    all-and (decimal-graphic mark)
-    (all-and (name-graphic (o .check))
-    (all-and (figure-graphic (o .first))
-    (all-and (figure-graphic (o .second))
-    (all-and (figure-graphic (o .third)) (all-and (figure-graphic (o .fourth)) all-none)))))
+line-graphic mark o = (
+  decimal-graphic mark,
+  (name-graphic (o .check), (figure-graphic (o .first), (figure-graphic (o .second), (figure-graphic (o .third), (figure-graphic (o .fourth), tt))))),
+)
 
 pub head-graphic : (n : ℕ) → All (All Graphic) (headWords n)
 unfolding every
-head-graphic n = all-and (graphic _ refl) (all-and (decimal-graphic n) all-none)
+head-graphic n = (graphic (getD (headWords n) 0 []) refl, (decimal-graphic n, tt))
 
 -- ---- One line
 
@@ -56,14 +56,15 @@ saidOf mark o = record {
 pub said-line : (mark : ℕ) (o : Outcome) → saidBy (joinedBy 32 (lineWords mark o)) ≡ saidOf mark o
 unfolding saidBy
 said-line mark o =
+    let ws = lineWords mark o in
     let a = line-graphic mark o in
     rw (
-      read-word 0 a,
-      read-word 1 a,
-      read-word 2 a,
-      read-word 3 a,
-      read-word 4 a,
-      read-word 5 a,
+      read-word 0 ws a,
+      read-word 1 ws a,
+      read-word 2 ws a,
+      read-word 3 ws a,
+      read-word 4 ws a,
+      read-word 5 ws a,
       decimal-value mark,
       figure-said (o .first),
       figure-said (o .second),
@@ -73,7 +74,7 @@ said-line mark o =
 
 -- from the text of the one line
 pub said-alone : (mark : ℕ) (o : Outcome) → saidBy (lineOf 0 (lineText (lineWords mark o))) ≡ saidOf mark o
-said-alone mark o = ap saidBy (read-line 0 (all-and (line-graphic mark o) all-none)) ∙ said-line mark o
+said-alone mark o = ap saidBy (read-line 0 (lineWords mark o ∷ []) (line-graphic mark o, tt)) ∙ said-line mark o
 
 -- ---- A report
 
@@ -85,15 +86,14 @@ getD-map-in f (x ∷ xs) (suc i) a b h = getD-map-in f xs i a b (omega arith)
 module _ {A : Type 0} (markOf : A → ℕ) (outcomeOf : A → Outcome) (members : List A) where
   pub report-graphic : All (All (All Graphic)) (reportWords markOf outcomeOf members)
   report-graphic =
-      all-and (head-graphic (length members))
-      (all-map (λ m. lineWords (markOf m) (outcomeOf m)) (λ m. line-graphic (markOf m) (outcomeOf m)) members)
+      (head-graphic (length members), all-images _ (λ m. lineWords (markOf m) (outcomeOf m)) (λ m. line-graphic (markOf m) (outcomeOf m)) members)
 
   -- the first line says how many members there are
   pub head-said : valueOf (wordOf 1 (lineOf 0 (textOf (reportWords markOf outcomeOf members)))) ≡ length members
-  head-said = ap valueOf (read-back 0 1 report-graphic) ∙ decimal-value (length members)
+  head-said = ap valueOf (read-back 0 1 (reportWords markOf outcomeOf members) report-graphic) ∙ decimal-value (length members)
 
   -- the line after i others says what member i came to
   pub member-said : (i : ℕ) (d : A) → i < length members → saidBy (lineOf (suc i) (textOf (reportWords markOf outcomeOf members))) ≡ saidOf (markOf (getD members i d)) (outcomeOf (getD members i d))
   member-said i d h =
-      ap saidBy (read-line (suc i) report-graphic ∙ ap (joinedBy 32) (getD-map-in (λ m. lineWords (markOf m) (outcomeOf m)) members i d [] h))
+      ap saidBy (read-line (suc i) (reportWords markOf outcomeOf members) report-graphic ∙ ap (joinedBy 32) (getD-map-in (λ m. lineWords (markOf m) (outcomeOf m)) members i d [] h))
       ∙ said-line (markOf (getD members i d)) (outcomeOf (getD members i d))

@@ -7,7 +7,6 @@ use text::Word;
 use text::put_byte;
 use text::put_word;
 use text::word_of;
-ghost use mathlib.Core.Path.{_≡_};
 ghost use mathlib.Core.List.{_∷_, _++_, []};
 ghost use Rattle.text.specs.Text.{decimal, wordText};
 ghost use Rattle.text.specs.Put.{Put};

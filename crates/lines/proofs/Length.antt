@@ -1,22 +1,25 @@
 -- How long a report can be.
 use Prim.Native.Nat.{ℕ, zero, suc, _+_, _*_, _^_, _≤_, _<_}
 use mathlib.Core.Path.{_≡_, refl}
-use mathlib.Core.List.{List, [], _∷_, _++_, map}
+use mathlib.Core.List.{List, _++_, map}
 use native.Mathlib.Omega.{arith}
 use lib.ListN.{length, length-append, length-map}
-use Rattle.text.proofs.All.{All, all-none, all-and}
-use Rattle.line.specs.Line.{lineWords, headWords, lineText}
+use Rattle.quantity.specs.All.{All}
+use Rattle.quantity.proofs.All.{all-map}
+use Rattle.line.specs.Line.{lineWords, headWords, reportWords, lineText}
 use Rattle.line.proofs.Length.{line-short, head-short, text-short}
 use Rattle.member.specs.Member.{Member, beam, column, mesh}
 use Rattle.member.specs.Accepted.{AcceptedMember, AcceptedMembers}
 use Rattle.question.specs.declared.Question.{Question}
+use Rattle.field.specs.Fields.{kindOf}
 use Rattle.built.specs.declared.Built.{Built}
-use Rattle.built.specs.declared.Verdict.the-variants.{Accepted}
+use Rattle.question.specs.declared.Verdict.the-variants.{Accepted}
 use Rattle.built.specs.Built.{memberOf}
 use Rattle.built.specs.Verdict.{builtVerdict}
 use Rattle.built.proofs.Accepted.{accepted-built}
 use Rattle.outcome.specs.declared.Outcome.{Outcome}
-use Rattle.reading.specs.Reading.{Reading, Placed, got, no}
+use Rattle.question.specs.Reading.{Reading, got, no}
+use Rattle.reading.specs.Placed.{Placed}
 use Rattle.members.specs.Members.{member}
 use Rattle.members.proofs.Accepted.{member-was}
 use Rattle.checks.specs.Outcome.{markOf, outcomeOf}
@@ -38,16 +41,15 @@ member-line-short m a =
 pub line-fits : (x : Built) (o : Outcome) → builtVerdict (x .mark) (x .kind) (x .fields .v) ≡ Accepted → o ≡ outcomeOf (memberOf x) →
     length (lineText (lineWords (x .mark) o)) ≤ 55
 line-fits x o v e =
-    rw (← mark-of (x .mark) (x .kind) (x .fields .v), e) (member-line-short (memberOf x) (accepted-built (x .mark) (x .kind) (x .fields .v) v))
+    rw (← mark-of (x .mark) (kindOf (x .kind)) (x .fields .v), e) (member-line-short (memberOf x) (accepted-built (x .mark) (x .kind) (x .fields .v) v))
 
 lines-short : (ms : List Member) → AcceptedMembers ms → All (λ l. length (lineText l) ≤ 55) (map (λ m. lineWords (markOf m) (outcomeOf m)) ms)
-lines-short [] a = all-none
-lines-short (m ∷ ms) a = all-and (member-line-short m (a .0)) (lines-short ms (a .1))
+lines-short ms a = all-map AcceptedMember _ (λ m. lineWords (markOf m) (outcomeOf m)) member-line-short ms a
 
 pub report-short : (ms : List Member) → AcceptedMembers ms → length ms ≤ 500 → length (reportText ms) ≤ 60000
 report-short ms a h =
     let head : length (lineText (headWords (length ms))) ≤ 55 = omega (arith, head-short 3 (length ms) (omega arith) (omega arith)) in
-    omega (arith, text-short 55 (all-and head (lines-short ms a)), length-map ms (λ m. lineWords (markOf m) (outcomeOf m)))
+    omega (arith, text-short 55 (reportWords markOf outcomeOf ms) (head, lines-short ms a), length-map ms (λ m. lineWords (markOf m) (outcomeOf m)))
 
 -- the lines of members read one after the other
 lines-most : (n : ℕ) (s : List ℕ) (p : ℕ) → length (linesFrom n s p) ≤ 55 * n

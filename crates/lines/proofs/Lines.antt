@@ -1,23 +1,24 @@
 -- The lines of members read one after the other, and that they are the report's.
 use Prim.Native.Nat.{ℕ, zero, suc, _+_, _-_, _<_, _≤_}
 use mathlib.Core.Path.{_≡_, refl, sym, ap, _∙_}
-use mathlib.Core.Bool.{Bool, true, false}
 use mathlib.Core.List.{List, [], _∷_, _++_, map}
 use native.Mathlib.Omega.{arith}
-use lib.Dec.{eqb}
 use lib.ListN.{length}
-use Rattle.quantity.specs.Choice.{if_then_else_}
 use Rattle.text.specs.Text.{textOf, endedBy}
 use Rattle.text.specs.Put.{Put}
 use Rattle.line.specs.Line.{lineWords, headWords, lineText}
 use Rattle.line.proofs.Text.{text-append}
 use Rattle.question.specs.declared.Question.{Question}
 use Rattle.outcome.specs.declared.Outcome.{Outcome}
-use Rattle.member.specs.Member.{Member, beam, column, mesh}
+use Rattle.member.specs.Member.{Member}
+use Rattle.field.specs.declared.MemberKind.{MemberKind}
+use Rattle.field.specs.declared.MemberKind.the-variants as kinds
+use Rattle.field.specs.Fields.{kindOf}
 use Rattle.built.specs.declared.Built.{Built}
-use Rattle.layout.specs.Layout.{memberAt, beamAt, columnAt, meshAt}
+use Rattle.layout.specs.Layout.{memberAt}
 use Rattle.built.specs.Built.{memberOf}
-use Rattle.reading.specs.Reading.{Reading, got, no, placed, Placed, Got}
+use Rattle.question.specs.Reading.{Reading, got, no, Got}
+use Rattle.reading.specs.Placed.{placed, Placed}
 use Rattle.members.specs.Members.{member, members}
 use Rattle.members.proofs.Members.{first-read, members-length}
 use Rattle.members.proofs.Accepted.{any-before}
@@ -52,19 +53,16 @@ module _ (n : ℕ) (s : List ℕ) (p : ℕ) (h : 0 < n) where
     lines-more = ap (λ (k : ℕ). linesFrom k s p) one-less ∙ rw e
 
 -- the mark of a member in slots
-pub mark-of : (mark kind : ℕ) (v : List ℕ) → markOf (memberAt mark kind v) ≡ mark
+pub mark-of : (mark : ℕ) (kind : MemberKind) (v : List ℕ) → markOf (memberAt mark kind v) ≡ mark
 unfolding memberAt
-mark-of mark kind v = go (eqb kind 1) (eqb kind 2)
-  where
-    go : (a b : Bool) → markOf (if a then beam mark (beamAt v) else (if b then column mark (columnAt v) else mesh mark (meshAt v))) ≡ mark
-    go true b = refl
-    go false true = refl
-    go false false = refl
+mark-of mark kinds.Beam v = refl
+mark-of mark kinds.Column v = refl
+mark-of mark kinds.Mesh v = refl
 
 -- what is put for a member is its text
 pub put-member : (b : Built) {d d′ : List ℕ} {at r : ℕ} (o : Outcome) → o ≡ outcomeOf (memberOf b) →
     Put d at (lineText (lineWords (b .mark) o)) d′ r → Put d at (memberText (memberOf b)) d′ r
-put-member b o e w = rw (mark-of (b .mark) (b .kind) (b .fields .v), ← e) w
+put-member b o e w = rw (mark-of (b .mark) (kindOf (b .kind)) (b .fields .v), ← e) w
 
 -- ---- All of them.
 

@@ -7,7 +7,8 @@ use Rattle.question.specs.declared.Question.{Question}
 use Rattle.member.specs.Member.{Member}
 use Rattle.built.specs.declared.Built.{Built}
 use Rattle.built.specs.Built.{memberOf}
-use Rattle.reading.specs.Reading.{Reading, got, no, Placed}
+use Rattle.question.specs.Reading.{Reading, got, no}
+use Rattle.reading.specs.Placed.{Placed}
 use Rattle.members.specs.Members.{member}
 use Rattle.checks.specs.Outcome.{markOf, outcomeOf}
 

@@ -1,53 +1,46 @@
 -- The groups that a count names in a list, found among its first four.
 use Prim.Native.Nat.{ℕ, zero, suc, _≤_}
 use mathlib.Core.Path.{_≡_, refl, _∙_}
-use mathlib.Core.Bool.{true, false, _&&_, false≢true}
-use mathlib.Core.List.{List, [], _∷_}
+use mathlib.Core.Bool.{true, false≢true}
+use mathlib.Core.List.{List, [], _∷_, _++_}
 use native.Mathlib.Omega.{arith}
 use lib.Dec.{leb}
-use lib.ListN.{length, take, length-take}
+use lib.ListN.{length, take, length-take, replicate}
+use lib.Seq.{take-take, take-append-le}
 use borrow.Author.Tests.{leb-true, le-leb}
 use Rattle.quantity.proofs.Choice.{both-true, same-test}
+use Rattle.quantity.proofs.Reflects.{same-le}
 use Rattle.bars.specs.declared.Group.{Group}
 use Rattle.bars.specs.Accepted.{AcceptedGroup, AcceptedGroups}
 use Rattle.domain.specs.Domain.{groupDiameter}
 use Rattle.domain.proofs.Between.{in-between, a-bar}
 use Rattle.lists.specs.Lists.{groupHolds, groupsHold, namedHold}
-use Rattle.lists.specs.Copied.{four}
+use Rattle.lists.specs.Copied.{noGroup, four}
+
+-- the first four of a list are those of the list with four that are not there after it
+abbrev padded : List Group → List Group
+padded gs = gs ++ replicate 4 noGroup
+
+four-padded : (gs : List Group) → four gs ≡ take 4 (padded gs)
+four-padded [] = refl
+four-padded (g₀ ∷ []) = refl
+four-padded (g₀ ∷ g₁ ∷ []) = refl
+four-padded (g₀ ∷ g₁ ∷ g₂ ∷ []) = refl
+four-padded (g₀ ∷ g₁ ∷ g₂ ∷ g₃ ∷ gs) = refl
 
 -- a group that is not there has no bar's diameter: groups that hold are all in their list
-all-there : (n : ℕ) (gs : List Group) → n ≤ 4 → groupsHold (take n (four gs)) ≡ true → n ≤ length gs
-all-there zero gs h a = omega arith
-all-there (suc n) [] h a = absurd (false≢true a)
-all-there (suc zero) (g₀ ∷ gs) h a = omega arith
-all-there (suc (suc n)) (g₀ ∷ []) h a = absurd (false≢true (both-true (groupHolds g₀) false a .1))
-all-there (suc (suc zero)) (g₀ ∷ g₁ ∷ gs) h a = omega arith
-all-there (suc (suc (suc n))) (g₀ ∷ g₁ ∷ []) h a = absurd (false≢true (both-true (groupHolds g₁) false (both-true (groupHolds g₀) (groupHolds g₁ && false) a .1) .1))
-all-there (suc (suc (suc zero))) (g₀ ∷ g₁ ∷ g₂ ∷ gs) h a = omega arith
-all-there (suc (suc (suc (suc n)))) (g₀ ∷ g₁ ∷ g₂ ∷ []) h a = absurd (false≢true (both-true (groupHolds g₂) false (both-true (groupHolds g₁) (groupHolds g₂ && false) (both-true (groupHolds g₀) (groupHolds g₁ && (groupHolds g₂ && false)) a .1) .1) .1))
-all-there (suc (suc (suc (suc n)))) (g₀ ∷ g₁ ∷ g₂ ∷ g₃ ∷ gs) h a = omega arith
-
--- the first n of a list that has them are those of its first four, for n up to 4
-first-groups : (n : ℕ) (gs : List Group) → n ≤ 4 → n ≤ length gs → take n (four gs) ≡ take n gs
-first-groups zero gs h l = refl
-first-groups (suc n) [] h l = absurd (omega arith)
-first-groups (suc zero) (g₀ ∷ gs) h l = refl
-first-groups (suc (suc n)) (g₀ ∷ []) h l = absurd (omega arith)
-first-groups (suc (suc zero)) (g₀ ∷ g₁ ∷ gs) h l = refl
-first-groups (suc (suc (suc n))) (g₀ ∷ g₁ ∷ []) h l = absurd (omega arith)
-first-groups (suc (suc (suc zero))) (g₀ ∷ g₁ ∷ g₂ ∷ gs) h l = refl
-first-groups (suc (suc (suc (suc n)))) (g₀ ∷ g₁ ∷ g₂ ∷ []) h l = absurd (omega arith)
-first-groups (suc (suc (suc (suc zero)))) (g₀ ∷ g₁ ∷ g₂ ∷ g₃ ∷ gs) h l = refl
-first-groups (suc (suc (suc (suc (suc n))))) (g₀ ∷ g₁ ∷ g₂ ∷ g₃ ∷ gs) h l = absurd (omega arith)
-
-take-again : (n : ℕ) (gs : List Group) → take n (take n gs) ≡ take n gs
-take-again zero gs = refl
-take-again (suc n) [] = refl
-take-again (suc n) (g ∷ gs) = rw (take-again n gs)
+all-there : (n : ℕ) (gs : List Group) → groupsHold (take n (padded gs)) ≡ true → n ≤ length gs
+all-there zero gs a = omega arith
+all-there (suc n) [] a = absurd (false≢true a)
+all-there (suc n) (g ∷ gs) a = omega (arith, all-there n gs (both-true (groupHolds g) _ a .1))
 
 module _ (n : ℕ) (list : List Group) (h : n ≤ 4) where
+  first-groups : (gs : List Group) → take n (four gs) ≡ take n (padded gs)
+  first-groups gs = rw (four-padded gs) (take-take n 4 (padded gs) h)
+
   in-list : n ≤ length list → take n (four (take n list)) ≡ take n list
-  in-list l = first-groups n (take n list) h (simp length-take (omega arith)) ∙ take-again n list
+  in-list l =
+      first-groups (take n list) ∙ take-append-le n (take n list) _ (simp length-take (omega arith)) ∙ take-take n n list (omega arith)
 
   -- the groups that a count names are those copied out
   pub named-groups : namedHold n list ≡ true → take n (four (take n list)) ≡ take n list
@@ -62,7 +55,7 @@ module _ (n : ℕ) (list : List Group) (h : n ≤ 4) where
       (λ e. let l : n ≤ length list = leb-true _ _ (both-true _ _ e .0) in rw (in-list l) (both-true (leb n (length list)) _ e .1))
     where
       within : groupsHold (take n (four (take n list))) ≡ true → n ≤ length list
-      within a = let k = all-there n (take n list) h a in omega (arith, simp length-take at k)
+      within a = let k = all-there n (take n list) (rw (first-groups (take n list)) at a) in omega (arith, simp length-take at k)
 
 -- lists that agree up to a count get the same answer
 pub named-same : (n : ℕ) (list list′ : List Group) → take n list ≡ take n list′ → namedHold n list′ ≡ namedHold n list
@@ -71,9 +64,7 @@ named-same n list list′ e = rw (long list, long list′, e)
   where
     -- whether a list has n groups shows in its first n
     long : (gs : List Group) → leb n (length gs) ≡ leb n (length (take n gs))
-    long gs = same-test (leb n (length gs)) (leb n (length (take n gs)))
-        (λ a. le-leb n (length (take n gs)) (simp length-take (omega (arith, leb-true n (length gs) a))))
-        (λ a. le-leb n (length gs) (omega (arith, simp length-take at (leb-true n (length (take n gs)) a))))
+    long gs = same-le n (length gs) n (length (take n gs)) (λ h. simp length-take (omega arith)) (λ h. omega (arith, simp length-take at h))
 
 -- groups that hold are accepted
 pub held-accepted : (gs : List Group) → groupsHold gs ≡ true → AcceptedGroups gs

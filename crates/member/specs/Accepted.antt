@@ -3,8 +3,9 @@
 use Prim.Native.Nat.{ℕ, _+_, _*_, _≤_, _<_}
 use mathlib.Core.Path.{_≡_}
 use mathlib.Core.Bool.{true}
-use mathlib.Core.List.{List, [], _∷_}
+use mathlib.Core.List.{List}
 use lib.ListN.{length}
+use Rattle.quantity.specs.All.{All}
 use Rattle.table.specs.Table.{listed}
 use Rattle.material.specs.Concrete.{concretes}
 use Rattle.material.specs.Steel.{steels, linkSteels}
@@ -111,5 +112,4 @@ AcceptedMember (column m x) = AcceptedMark m × AcceptedColumn x
 AcceptedMember (mesh m x) = AcceptedMark m × AcceptedMesh x
 
 abbrev pub AcceptedMembers : List Member → Type 0
-AcceptedMembers [] = Unit {0}
-AcceptedMembers (m ∷ ms) = AcceptedMember m × AcceptedMembers ms
+AcceptedMembers ms = All AcceptedMember ms

@@ -13,16 +13,17 @@ use Rattle.number.specs.Number.{numberAt}
 use Rattle.member.specs.Member.{Member}
 use Rattle.member.specs.Accepted.{AcceptedMember, AcceptedMembers}
 use Rattle.quantity.proofs.Choice.{both-true}
-use Rattle.field.specs.Fields.{fieldsOf, known}
+use Rattle.field.specs.Fields.{known, kindOf, fieldsOf}
 use Rattle.slots.specs.Slots.{fieldsHold}
 use Rattle.domain.proofs.Between.{in-between}
 use Rattle.built.specs.declared.Built.{Built}
-use Rattle.built.specs.declared.Verdict.{Verdict}
-use Rattle.built.specs.declared.Verdict.the-variants as verdicts
+use Rattle.question.specs.declared.Verdict.{Verdict}
+use Rattle.question.specs.declared.Verdict.the-variants as verdicts
 use Rattle.built.specs.Built.{memberOf}
 use Rattle.built.specs.Verdict.{markInRange, memberVerdict}
 use Rattle.built.proofs.Accepted.{accepted-member}
-use Rattle.reading.specs.Reading.{Reading, got, no, Placed, placed, andThen, passed, Got, ofNumber}
+use Rattle.question.specs.Reading.{Reading, got, no, andThen, passed, Got}
+use Rattle.reading.specs.Placed.{Placed, placed, ofNumber}
 use Rattle.reading.specs.Fields.{empty, checked, fields}
 use Rattle.members.specs.Members.{whole, markRises, markAt, kindAt, member, members}
 use Rattle.reading.specs.Taken.{taken}
@@ -52,19 +53,19 @@ pub record MemberWas (s : List ℕ) (p before : ℕ) (b : Built) : Type 0 where
   pub accepted : AcceptedMember (memberOf b)
   pub above : before < b .mark
 
-whole-accepted : (mark kind : ℕ) (s : List ℕ) (p : ℕ) (x : Placed Built) → markInRange mark ≡ true → known kind ≡ true → whole mark kind s p ≡ got x
+whole-accepted : (mark kind : ℕ) (s : List ℕ) (p : ℕ) (x : Placed Built) → markInRange mark ≡ true → whole mark kind s p ≡ got x
     → AcceptedMember (memberOf (x .value)) × (x .value .mark ≡ mark)
 unfolding whole
-whole-accepted mark kind s p x m k e =
-    let w = went-on (fields (fieldsOf kind) s p 0 empty) _ x e in
-    on-verdict (w .value) (memberVerdict kind (w .value .value)) refl (fields-held s (w .value .value) p (w .value .next) kind k (w .was)) (w .then)
+whole-accepted mark kind s p x m e =
+    let w = went-on (fields (fieldsOf (kindOf kind)) s p 0 empty) _ x e in
+    on-verdict (w .value) (memberVerdict (kindOf kind) (w .value .value)) refl (fields-held s (w .value .value) p (w .value .next) (kindOf kind) (w .was)) (w .then)
   where
-    on-verdict : (f : Placed (List ℕ)) (t : Verdict) → memberVerdict kind (f .value) ≡ t → fieldsHold (fieldsOf kind) 0 (f .value) ≡ true
+    on-verdict : (f : Placed (List ℕ)) (t : Verdict) → memberVerdict (kindOf kind) (f .value) ≡ t → fieldsHold (fieldsOf (kindOf kind)) 0 (f .value) ≡ true
         → passed t (got (placed (record { mark = mark; kind = kind; fields = record { v = f .value } }) (f .next))) ≡ got x
         → AcceptedMember (memberOf (x .value)) × (x .value .mark ≡ mark)
     on-verdict f verdicts.Accepted v h e =
         let same : placed (record { mark = mark; kind = kind; fields = record { v = f .value } }) (f .next) ≡ x = cc in
-        rw (← ap (λ (y : Placed Built). y .value) same) (accepted-member mark (f .value) m kind k h v, refl)
+        rw (← ap (λ (y : Placed Built). y .value) same) (accepted-member mark (f .value) m (kindOf kind) h v, refl)
     on-verdict f (verdicts.Refused q) v h e = absurd (no-got e)
 
 pub member-was : (s : List ℕ) (p before : ℕ) (b : Built) (next : ℕ) → member s p before ≡ got (placed b next) → MemberWas s p before b
@@ -73,8 +74,7 @@ member-was s p before b next e =
     let m = went-on (checked Mark (markRises before) s p) _ (placed b next) e in
     let k = went-on (checked Kind known s (m .value .next)) _ (placed b next) (m .then) in
     let t = both-true (markInRange (m .value .value)) _ (passes Mark (markRises before) s p (m .value .value) (m .value .next) (m .was)) in
-    let w = whole-accepted (m .value .value) (k .value .value) s (k .value .next) (placed b next) (t .0)
-    (passes Kind known s (m .value .next) (k .value .value) (k .value .next) (k .was)) (k .then) in
+    let w = whole-accepted (m .value .value) (k .value .value) s (k .value .next) (placed b next) (t .0) (k .then) in
     record { accepted = w .0; above = rw (w .1) (ltb-true _ _ (t .1)) }
 
 pub number-was : (q : Question) (test : ℕ → Bool) (s : List ℕ) (p x next : ℕ) → checked q test s p ≡ got (placed x next) → numberAt s p ≡ Value x next
@@ -105,8 +105,7 @@ pub record MemberParts (s : List ℕ) (p : ℕ) (x : Placed Built) : Type 0 wher
   pub slots : List ℕ
   pub mark-is : numberAt s p ≡ Value mark after-mark
   pub kind-is : numberAt s after-mark ≡ Value kind after-kind
-  pub is-known : known kind ≡ true
-  pub takes : taken (fieldsOf kind) s after-kind 0 empty ≡ got (placed slots (x .next))
+  pub takes : taken (fieldsOf (kindOf kind)) s after-kind 0 empty ≡ got (placed slots (x .next))
   pub member-is : x .value ≡ record { mark = mark; kind = kind; fields = record { v = slots } }
 
 pub member-parts : (s : List ℕ) (p before : ℕ) (x : Placed Built) → member s p before ≡ got x → MemberParts s p x
@@ -114,18 +113,17 @@ unfolding member markAt kindAt whole
 member-parts s p before x e =
     let m = went-on (checked Mark (markRises before) s p) _ x e in
     let k = went-on (checked Kind known s (m .value .next)) _ x (m .then) in
-    let f = went-on (fields (fieldsOf (k .value .value)) s (k .value .next) 0 empty) _ x (k .then) in
+    let f = went-on (fields (fieldsOf (kindOf (k .value .value))) s (k .value .next) 0 empty) _ x (k .then) in
     on-verdict (m .value) (k .value) (f .value) (number-was Mark (markRises before) s p (m .value .value) (m .value .next) (m .was))
     (number-was Kind known s (m .value .next) (k .value .value) (k .value .next) (k .was))
-    (passes Kind known s (m .value .next) (k .value .value) (k .value .next) (k .was))
-    (fields-taken s (f .value .value) (k .value .next) (f .value .next) (k .value .value) (f .was))
-    (memberVerdict (k .value .value) (f .value .value)) (f .then)
+    (fields-taken s (f .value .value) (k .value .next) (f .value .next) (kindOf (k .value .value)) (f .was))
+    (memberVerdict (kindOf (k .value .value)) (f .value .value)) (f .then)
   where
     on-verdict : (m k : Placed ℕ) (f : Placed (List ℕ)) → numberAt s p ≡ Value (m .value) (m .next) → numberAt s (m .next) ≡ Value (k .value) (k .next)
-        → known (k .value) ≡ true → taken (fieldsOf (k .value)) s (k .next) 0 empty ≡ got (placed (f .value) (f .next)) → (t : Verdict)
+        → taken (fieldsOf (kindOf (k .value))) s (k .next) 0 empty ≡ got (placed (f .value) (f .next)) → (t : Verdict)
         → passed t (got (placed (record { mark = m .value; kind = k .value; fields = record { v = f .value } }) (f .next))) ≡ got x
         → MemberParts s p x
-    on-verdict m k f a b c g verdicts.Accepted e =
+    on-verdict m k f a b g verdicts.Accepted e =
         let same : placed (record { mark = m .value; kind = k .value; fields = record { v = f .value } }) (f .next) ≡ x = cc in
         record {
           mark = m .value;
@@ -135,11 +133,10 @@ member-parts s p before x e =
           slots = f .value;
           mark-is = a;
           kind-is = b;
-          is-known = c;
           takes = g ∙ ap (λ (n : ℕ). got (placed (f .value) n)) (ap (λ (y : Placed Built). y .next) same);
           member-is = sym (ap (λ (y : Placed Built). y .value) same);
         }
-    on-verdict m k f a b c g (verdicts.Refused q) e = absurd (no-got e)
+    on-verdict m k f a b g (verdicts.Refused q) e = absurd (no-got e)
 
 value-is : (n : Number) (x next y after : ℕ) → n ≡ Value x next → n ≡ Value y after → (x ≡ y) × (next ≡ after)
 value-is n x next y after e f = (cc, cc)
@@ -176,17 +173,14 @@ module _ (s : List ℕ) (p : ℕ) (ok : Got (member s p 0)) where
       kind-same : (parts .kind ≡ kind) × (parts .after-kind ≡ first)
       kind-same = value-is _ _ _ _ _ kind-at k
 
-      pub kind-is-known : known kind ≡ true
-      kind-is-known = rw (← kind-same .0) (parts .is-known)
-
-      takes : taken (fieldsOf kind) s first 0 empty ≡ got (placed (parts .slots) (was .value .next))
+      takes : taken (fieldsOf (kindOf kind)) s first 0 empty ≡ got (placed (parts .slots) (was .value .next))
       takes = rw (← kind-same .0, ← kind-same .1) (parts .takes)
 
-      pub fields-got : Got (taken (fieldsOf kind) s first 0 empty)
+      pub fields-got : Got (taken (fieldsOf (kindOf kind)) s first 0 empty)
       unfolding Got
       fields-got = rw takes tt
 
-      pub member-taken : (v : List ℕ) (next : ℕ) → taken (fieldsOf kind) s first 0 empty ≡ got (placed v next)
+      pub member-taken : (v : List ℕ) (next : ℕ) → taken (fieldsOf (kindOf kind)) s first 0 empty ≡ got (placed v next)
           → member s p 0 ≡ got (placed (record { mark = mark; kind = kind; fields = record { v = v } }) next)
       member-taken v next t =
           let f : placed v next ≡ placed (parts .slots) (was .value .next) = got-is (sym t ∙ takes) in

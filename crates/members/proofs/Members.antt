@@ -1,28 +1,27 @@
 -- The steps of reading members, as the code takes them.
 use Prim.Native.Nat.{ℕ, zero, suc, _+_, _-_, _≤_, _<_}
 use mathlib.Core.Path.{_≡_, refl, sym, ap, _∙_}
-use mathlib.Core.Bool.{true}
 use mathlib.Core.List.{List, [], _∷_}
 use native.Mathlib.Omega.{arith}
 use lib.ListN.{length}
 use Rattle.question.specs.declared.Question.{Question}
-use Rattle.question.specs.declared.Question.the-variants.{Kind}
 use Rattle.question.specs.declared.Refusal.{Refusal}
 use Rattle.number.specs.declared.Number.{Number}
 use Rattle.number.specs.declared.Number.the-variants.{Value, Refused}
 use Rattle.member.specs.Member.{Member}
-use Rattle.field.specs.Fields.{fieldsOf, known}
+use Rattle.field.specs.declared.MemberKind.{MemberKind}
+use Rattle.field.specs.Fields.{kindOf, fieldsOf}
 use Rattle.built.specs.declared.Built.{Built}
-use Rattle.built.specs.declared.Verdict.{Verdict}
-use Rattle.built.specs.declared.Verdict.the-variants as verdicts
+use Rattle.question.specs.declared.Verdict.{Verdict}
+use Rattle.question.specs.declared.Verdict.the-variants as verdicts
 use Rattle.built.specs.Built.{memberOf}
 use Rattle.built.specs.Verdict.{memberVerdict}
 use Rattle.members.specs.declared.MemberRead.{MemberRead}
-use Rattle.reading.specs.Reading.{Reading, got, no, Placed, placed, andThen, ofNumber, passed, refusal, named}
+use Rattle.question.specs.Reading.{Reading, got, no, andThen, passed, refusal, named}
+use Rattle.reading.specs.Placed.{Placed, placed, ofNumber}
 use Rattle.reading.specs.Fields.{empty, fields}
 use Rattle.members.specs.Members.{whole, markAt, kindAt, member, members}
 use Rattle.members.specs.Result.{readOf, marked, placeAfter}
-use Rattle.reading.proofs.Checked.{passes}
 
 -- ---- A member.
 
@@ -52,17 +51,17 @@ marked-no : (o : Reading Question (Placed Built)) (q : Question) → marked o �
 marked-no (got b) q e = absurd (let z : _≡_ {A = ℕ} 0 1 = cc in omega arith)
 marked-no (no r) q e = cc
 
-module _ (mark kind : ℕ) (s : List ℕ) (p : ℕ) where
-  pub whole-no : (q : Question) → fields (fieldsOf kind) s p 0 empty ≡ no q → marked (whole mark kind s p) ≡ no q
+module _ (mark number : ℕ) (kind : MemberKind) (is : kind ≡ kindOf number) (s : List ℕ) (p : ℕ) where
+  pub whole-no : (q : Question) → fields (fieldsOf kind) s p 0 empty ≡ no q → marked (whole mark number s p) ≡ no q
   unfolding whole
-  whole-no q e = rw e
+  whole-no q e = rw (← is, e)
 
   pub whole-passed : (v : List ℕ) (next : ℕ) → fields (fieldsOf kind) s p 0 empty ≡ got (placed v next)
-      → marked (whole mark kind s p) ≡ passed (memberVerdict kind v) (got (placed mark next))
+      → marked (whole mark number s p) ≡ passed (memberVerdict kind v) (got (placed mark next))
   unfolding whole
-  whole-passed v next e = rw e (on-verdict (memberVerdict kind v))
+  whole-passed v next e = rw (← is, e) (on-verdict (memberVerdict kind v))
     where
-      on-verdict : (t : Verdict) → marked (passed t (got (placed (record { mark = mark; kind = kind; fields = record { v = v } }) next))) ≡ passed t (got (placed mark next))
+      on-verdict : (t : Verdict) → marked (passed t (got (placed (record { mark = mark; kind = number; fields = record { v = v } }) next))) ≡ passed t (got (placed mark next))
       on-verdict verdicts.Accepted = refl
       on-verdict (verdicts.Refused q) = refl
 
@@ -79,10 +78,6 @@ module _ (s : List ℕ) (p before : ℕ) where
     pub member-whole : (k : Number) (kind next : ℕ) → ofNumber k ≡ kindAt s at → k ≡ Value kind next → member s p before ≡ whole mark kind s next
     unfolding member
     member-whole k kind next g h = rw (sym e ∙ ap ofNumber f, sym g ∙ ap ofNumber h)
-
-pub kind-known : (k : Number) (s : List ℕ) (p kind next : ℕ) → ofNumber k ≡ kindAt s p → k ≡ Value kind next → known kind ≡ true
-unfolding kindAt
-kind-known k s p kind next g h = passes Kind known s p kind next (sym g ∙ ap ofNumber h)
 
 -- ---- Members in a row.
 

@@ -8,18 +8,19 @@ use Rattle.question.specs.declared.Question.{Question}
 use Rattle.question.specs.declared.Question.the-variants.{Mark, Kind}
 use Rattle.question.specs.declared.Refusal.{Refusal}
 use Rattle.member.specs.Member.{Member}
-use Rattle.field.specs.Fields.{fieldsOf, known}
+use Rattle.field.specs.Fields.{known, kindOf, fieldsOf}
 use Rattle.built.specs.declared.Built.{Built}
 use Rattle.built.specs.Built.{memberOf}
 use Rattle.built.specs.Verdict.{markInRange, memberVerdict}
-use Rattle.reading.specs.Reading.{Reading, got, Placed, placed, andThen, passed, named}
+use Rattle.question.specs.Reading.{Reading, got, andThen, passed, named}
+use Rattle.reading.specs.Placed.{Placed, placed}
 use Rattle.reading.specs.Fields.{checked, fields, empty}
 
 -- the member with this mark and kind, whose fields stand from p on: 7, then 8 to 10
 unfoldable pub whole : ℕ → ℕ → List ℕ → ℕ → Reading Question (Placed Built)
 whole mark kind s p =
-    andThen (fields (fieldsOf kind) s p 0 empty) (λ f.
-    passed (memberVerdict kind (f .value)) (got (placed (record { mark = mark; kind = kind; fields = record { v = f .value } }) (f .next))))
+    andThen (fields (fieldsOf (kindOf kind)) s p 0 empty) (λ f.
+    passed (memberVerdict (kindOf kind) (f .value)) (got (placed (record { mark = mark; kind = kind; fields = record { v = f .value } }) (f .next))))
 
 -- 5: in range, and above the mark before
 unfoldable pub markRises : ℕ → ℕ → Bool

@@ -10,7 +10,8 @@ use Rattle.members.specs.declared.Head.{Head}
 use Rattle.members.specs.declared.Ends.{Ends}
 use Rattle.members.specs.declared.Ends.the-variants.{At}
 use Rattle.members.specs.declared.Ends.the-variants as ends
-use Rattle.reading.specs.Reading.{Reading, got, no, Placed, placed, passed}
+use Rattle.question.specs.Reading.{Reading, got, no, passed}
+use Rattle.reading.specs.Placed.{Placed, placed}
 
 abbrev pub readOf : MemberRead → Reading Question (Placed ℕ)
 readOf r = passed (r .verdict) (got (placed (r .mark) (r .next)))

@@ -1,21 +1,21 @@
 // The members of a schedule, read one after the other: where they end, or the first question answered no, with its member.
 ghost use mathlib.Core.Path.{_≡_};
-ghost use mathlib.Core.Bool.{true};
 ghost use Prim.Native.Nat.{_≤_};
-ghost use Rattle.field.specs.Fields.{known};
-ghost use Rattle.reading.specs.Reading.{got, no, placed, ofNumber, Got};
+ghost use Rattle.question.specs.Reading.{got, no, Got};
+ghost use Rattle.reading.specs.Placed.{placed, ofNumber};
 ghost use Rattle.reading.specs.Fields.{empty};
 ghost use Rattle.members.specs.Members.{whole, markRises, markAt, kindAt, member, members};
 ghost use Rattle.members.specs.Result.{readOf, marked, headed, endsOf, placeAfter};
-use built::Verdict;
 use built::mark_in_range;
 use built::member_verdict;
 use field::is_known;
+use field::kind_of;
 use number::Number;
 use number::number_at;
 use quantity::both;
 use question::Question;
 use question::Refusal;
+use question::Verdict;
 use reading::Took;
 use reading::read_fields;
 use reading::take_fields;
@@ -53,11 +53,11 @@ fn refused_member(q: Question) -> MemberRead
     }
 }
 
-// The member with this mark and kind, whose fields are read one by one from `at` on.
-fn read_one_by_one(src: &[u8], at: usize, mark: u32, kind: u32) -> MemberRead
-    requires { ⌜ known kind ≡ true ⌝ }
-    ensures { λ r. ⌜ readOf r ≡ marked (whole mark kind (now (src .entry)) at) ⌝ }
+// The member with this mark and the kind of this number, whose fields are read one by one from `at` on.
+fn read_one_by_one(src: &[u8], at: usize, mark: u32, number: u32) -> MemberRead
+    ensures { λ r. ⌜ readOf r ≡ marked (whole mark number (now (src .entry)) at) ⌝ }
 {
+    let kind = kind_of(number);
     let run = read_fields(src, at, kind);
     let verdict = run.verdict;
     let fields = run.slots;
@@ -73,13 +73,13 @@ fn read_one_by_one(src: &[u8], at: usize, mark: u32, kind: u32) -> MemberRead
 }
 
 // The same, faster: the fields are taken at once and put question 7 together. Where that fails, one by one finds the first no.
-fn read_whole(src: &[u8], at: usize, mark: u32, kind: u32) -> MemberRead
-    requires { ⌜ known kind ≡ true ⌝ }
-    ensures { λ r. ⌜ readOf r ≡ marked (whole mark kind (now (src .entry)) at) ⌝ }
+fn read_whole(src: &[u8], at: usize, mark: u32, number: u32) -> MemberRead
+    ensures { λ r. ⌜ readOf r ≡ marked (whole mark number (now (src .entry)) at) ⌝ }
 {
+    let kind = kind_of(number);
     let mut v = [0u32; 40];
     match take_fields(src, at, kind, &mut v) {
-        Took::Refused(_) => read_one_by_one(src, at, mark, kind),
+        Took::Refused(_) => read_one_by_one(src, at, mark, number),
         Took::To(next) => {
             if fields_hold(kind, &v) {
                 MemberRead {
@@ -88,7 +88,7 @@ fn read_whole(src: &[u8], at: usize, mark: u32, kind: u32) -> MemberRead
                     next,
                 }
             } else {
-                read_one_by_one(src, at, mark, kind)
+                read_one_by_one(src, at, mark, number)
             }
         }
     }
@@ -141,7 +141,7 @@ fn read_member(src: &[u8], at: usize, before: u32) -> MemberRead
         Number::Refused(q) => refused_member(q),
         Number::Value(mark, p) => match read_kind(src, p) {
             Number::Refused(q) => refused_member(q),
-            Number::Value(kind, next) => read_whole(src, next, mark, kind),
+            Number::Value(number, next) => read_whole(src, next, mark, number),
         },
     }
 }
@@ -153,7 +153,7 @@ pub fn take_member(src: &[u8], at: usize, v: &mut [u32; 40]) -> Head
 {
     let mark = reread_number(src, at);
     let kind = reread_number(src, mark.next);
-    let after = reread_fields(src, kind.next, kind.value, v);
+    let after = reread_fields(src, kind.next, kind_of(kind.value), v);
     Head {
         mark: mark.value,
         kind: kind.value,

@@ -2,10 +2,9 @@
 use lib.Dec.{leb}
 use Rattle.quantity.specs.Choice.{if_then_else_}
 use Rattle.member.specs.Member.{Mesh}
-use Rattle.outcome.specs.Outcome.{outcome}
+use Rattle.outcome.specs.Outcome.{oneFigure, twoFigures}
 use Rattle.outcome.specs.declared.Outcome.{Outcome}
 use Rattle.outcome.specs.declared.Check.the-variants.{Passed, Anchorage, Lap}
-use Rattle.outcome.specs.declared.Figure.the-variants.{Reached, Unreached}
 use Rattle.anchorage.specs.Steps.{anchorageLength}
 use Rattle.lap.specs.Steps.{lapLength}
 
@@ -13,12 +12,12 @@ use Rattle.lap.specs.Steps.{lapLength}
 unfoldable pub lapOutcome : Mesh → Outcome
 lapOutcome x =
     if leb (lapLength x) (x .lap)
-    then outcome Passed (Reached (anchorageLength x)) (Reached (lapLength x)) Unreached Unreached
-    else outcome Lap (Reached (anchorageLength x)) (Reached (lapLength x)) Unreached Unreached
+    then twoFigures Passed (anchorageLength x) (lapLength x)
+    else twoFigures Lap (anchorageLength x) (lapLength x)
 
 -- 5.2.5, first: the anchorage is not above the given
 unfoldable pub meshOutcome : Mesh → Outcome
 meshOutcome x =
     if leb (anchorageLength x) (x .anchorage)
     then lapOutcome x
-    else outcome Anchorage (Reached (anchorageLength x)) Unreached Unreached Unreached
+    else oneFigure Anchorage (anchorageLength x)

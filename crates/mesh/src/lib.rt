@@ -2,29 +2,16 @@
 ghost use mathlib.Core.Path.{_≡_};
 ghost use Rattle.member.specs.Member.{meshOf};
 ghost use Rattle.member.specs.Accepted.{AcceptedMesh};
-ghost use Rattle.outcome.specs.Outcome.{outcome};
 ghost use Rattle.anchorage.specs.Steps.{anchorageLength};
 ghost use Rattle.mesh.specs.Checks.{lapOutcome, meshOutcome};
 use anchorage::anchorage_length;
 use lap::lap_length;
 use member::Mesh;
 use outcome::Check;
-use outcome::Figure;
 use outcome::Outcome;
+use outcome::one_figure;
+use outcome::two_figures;
 use quantity::Length;
-
-// The outcome of a mesh both of whose lengths were reached.
-fn lapped(check: Check, anchorage: u64, lap: u64) -> Outcome
-    ensures { λ r. ⌜ r ≡ outcome check (Figure.Reached anchorage) (Figure.Reached lap) Figure.Unreached Figure.Unreached ⌝ }
-{
-    Outcome {
-        check: check,
-        first: Figure::Reached(anchorage),
-        second: Figure::Reached(lap),
-        third: Figure::Unreached,
-        fourth: Figure::Unreached,
-    }
-}
 
 // What is left once the anchorage holds: the lap.
 fn check_lap(x: Mesh, anchorage: Length) -> Outcome
@@ -33,9 +20,9 @@ fn check_lap(x: Mesh, anchorage: Length) -> Outcome
 {
     let lap = lap_length(x).in_millimetres();
     if lap <= x.lap.in_millimetres() {
-        lapped(Check::Passed, anchorage.in_millimetres(), lap)
+        two_figures(Check::Passed, anchorage.in_millimetres(), lap)
     } else {
-        lapped(Check::Lap, anchorage.in_millimetres(), lap)
+        two_figures(Check::Lap, anchorage.in_millimetres(), lap)
     }
 }
 
@@ -48,12 +35,6 @@ pub fn check_mesh(x: Mesh) -> Outcome
     if anchorage.in_millimetres() <= x.anchorage.in_millimetres() {
         check_lap(x, anchorage)
     } else {
-        Outcome {
-            check: Check::Anchorage,
-            first: Figure::Reached(anchorage.in_millimetres()),
-            second: Figure::Unreached,
-            third: Figure::Unreached,
-            fourth: Figure::Unreached,
-        }
+        one_figure(Check::Anchorage, anchorage.in_millimetres())
     }
 }

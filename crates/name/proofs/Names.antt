@@ -6,9 +6,10 @@ use mathlib.Core.List.{List, [], _∷_}
 use lib.Dec.{eqb, leb, ltb}
 use lib.ListN.{length}
 use borrow.Author.Tests.{leb-true}
+use Rattle.quantity.specs.All.{All}
 use Rattle.quantity.specs.Choice.{if_then_else_}
 use Rattle.text.specs.Text.{every}
-use Rattle.text.proofs.All.{All, Graphic, graphic}
+use Rattle.text.proofs.Bytes.{Graphic, graphic}
 use Rattle.outcome.specs.declared.Check.{Check}
 use Rattle.outcome.specs.declared.Check.the-variants.{
   Passed,

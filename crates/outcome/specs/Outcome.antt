@@ -22,16 +22,28 @@ use Rattle.outcome.specs.declared.Check.the-variants.{
   Lap,
 }
 use Rattle.outcome.specs.declared.Figure.{Figure}
-use Rattle.outcome.specs.declared.Figure.the-variants.{Unreached}
+use Rattle.outcome.specs.declared.Figure.the-variants.{Reached, Unreached}
 use Rattle.outcome.specs.declared.Outcome.{Outcome}
 
 abbrev pub outcome : Check → Figure → Figure → Figure → Figure → Outcome
 outcome check first second third fourth =
     record { check = check; first = first; second = second; third = third; fourth = fourth }
 
--- no figure was reached
-abbrev pub stopped : Check → Outcome
-stopped check = outcome check Unreached Unreached Unreached Unreached
+-- by the figures that were reached: none, the first, the first two, three or all four
+abbrev pub noFigure : Check → Outcome
+noFigure check = outcome check Unreached Unreached Unreached Unreached
+
+abbrev pub oneFigure : Check → ℕ → Outcome
+oneFigure check a = outcome check (Reached a) Unreached Unreached Unreached
+
+abbrev pub twoFigures : Check → ℕ → ℕ → Outcome
+twoFigures check a b = outcome check (Reached a) (Reached b) Unreached Unreached
+
+abbrev pub threeFigures : Check → ℕ → ℕ → ℕ → Outcome
+threeFigures check a b c = outcome check (Reached a) (Reached b) (Reached c) Unreached
+
+abbrev pub fourFigures : Check → ℕ → ℕ → ℕ → ℕ → Outcome
+fourFigures check a b c d = outcome check (Reached a) (Reached b) (Reached c) (Reached d)
 
 -- the printed word, in bytes
 abbrev pub nameOf : Check → List ℕ

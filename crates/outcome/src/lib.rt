@@ -1,4 +1,6 @@
 // What the checks of a member come to: the first failed check or OK, and up to four figures.
+ghost use mathlib.Core.Path.{_≡_};
+ghost use Rattle.outcome.specs.Outcome.{noFigure, oneFigure, twoFigures, threeFigures, fourFigures};
 
 pub enum Check {
     // Every check holds: `OK`.
@@ -50,4 +52,65 @@ pub struct Outcome {
     pub second: Figure,
     pub third: Figure,
     pub fourth: Figure,
+}
+
+// An outcome by its check and the figures that were reached: none, the first, the first two, three or all four.
+pub fn no_figure(check: Check) -> Outcome
+    ensures { λ r. ⌜ r ≡ noFigure check ⌝ }
+{
+    Outcome {
+        check: check,
+        first: Figure::Unreached,
+        second: Figure::Unreached,
+        third: Figure::Unreached,
+        fourth: Figure::Unreached,
+    }
+}
+
+pub fn one_figure(check: Check, first: u64) -> Outcome
+    ensures { λ r. ⌜ r ≡ oneFigure check first ⌝ }
+{
+    Outcome {
+        check: check,
+        first: Figure::Reached(first),
+        second: Figure::Unreached,
+        third: Figure::Unreached,
+        fourth: Figure::Unreached,
+    }
+}
+
+pub fn two_figures(check: Check, first: u64, second: u64) -> Outcome
+    ensures { λ r. ⌜ r ≡ twoFigures check first second ⌝ }
+{
+    Outcome {
+        check: check,
+        first: Figure::Reached(first),
+        second: Figure::Reached(second),
+        third: Figure::Unreached,
+        fourth: Figure::Unreached,
+    }
+}
+
+pub fn three_figures(check: Check, first: u64, second: u64, third: u64) -> Outcome
+    ensures { λ r. ⌜ r ≡ threeFigures check first second third ⌝ }
+{
+    Outcome {
+        check: check,
+        first: Figure::Reached(first),
+        second: Figure::Reached(second),
+        third: Figure::Reached(third),
+        fourth: Figure::Unreached,
+    }
+}
+
+pub fn four_figures(check: Check, first: u64, second: u64, third: u64, fourth: u64) -> Outcome
+    ensures { λ r. ⌜ r ≡ fourFigures check first second third fourth ⌝ }
+{
+    Outcome {
+        check: check,
+        first: Figure::Reached(first),
+        second: Figure::Reached(second),
+        third: Figure::Reached(third),
+        fourth: Figure::Reached(fourth),
+    }
 }

@@ -11,8 +11,8 @@ use Rattle.text.specs.Put.{Put, lastPosition}
 use Rattle.text.proofs.Put.{fits, too-long, put-whole, learnt-length}
 use Rattle.question.specs.declared.Question.the-variants.{Buffer}
 use Rattle.question.specs.declared.Refusal.{Refusal}
-use Rattle.reading.specs.Reading.{refusal}
-use Rattle.reading.specs.Reading as reading
+use Rattle.question.specs.Reading.{refusal}
+use Rattle.question.specs.Reading as reading
 use Rattle.printed.specs.declared.Answer.{Answer}
 use Rattle.printed.specs.declared.Answer.the-variants.{Written, Refused}
 use Rattle.question.proofs.Numbers.{numbered}
@@ -49,5 +49,5 @@ text-written whose text d d′ a p e = go (decLe (length text) (length d))
         absurd (numbered Buffer (rw w at e))
 
 -- a refusal: its answer, and the buffer as it was
-pub refused-is : (whose : ℕ) (r : Refusal) (d : List ℕ) → (numbersOf (Refused r) ≡ answered whose (reading.no r) (length d)) × (d ≡ bufferAfter (reading.no r) d)
+pub refused-is : (whose : ℕ) (r : Refusal) (d : List ℕ) → (numbersOf (Refused r) ≡ answered whose (reading.no r) (length d)) × (d ≡ bufferAfter whose (reading.no r) d)
 refused-is whose r d = (refl, refl)

@@ -4,11 +4,10 @@ use mathlib.Core.Path.{_≡_}
 use mathlib.Core.List.{List, _++_}
 use lib.Dec.{leb}
 use lib.ListN.{length, drop}
-use Rattle.quantity.specs.Choice.{if_then_else_}
 use Rattle.question.specs.declared.Question.the-variants.{Buffer}
 use Rattle.question.specs.declared.Refusal.{Refusal}
 use Rattle.question.specs.Question.{numberOf}
-use Rattle.reading.specs.Reading.{Reading, got, no, refusal}
+use Rattle.question.specs.Reading.{Reading, got, no, andThen, ask, refusal}
 use Rattle.printed.specs.declared.Answer.{Answer}
 use Rattle.printed.specs.declared.Answer.the-variants.{Written, Refused}
 
@@ -28,17 +27,27 @@ abbrev pub numbersOf : Answer → Numbers
 numbersOf (Written n) = written n
 numbersOf (Refused r) = refused r
 
--- A text that is asked for, or a refusal: the answer, for a buffer of `room` bytes, and what the buffer holds afterwards.
--- 12 names member `whose`. Bytes past the text stay; a refusal leaves the buffer.
-abbrev pub answered : ℕ → Reading Refusal (List ℕ) → ℕ → Numbers
-answered whose (got text) room = if leb (length text) room then written (length text) else refused (refusal Buffer whose)
-answered whose (no r) room = refused r
+-- question 12, which names member `whose`: is the text that is asked for at most `room` bytes?
+abbrev pub askRoom : ℕ → ℕ → Reading Refusal (List ℕ) → Reading Refusal (List ℕ)
+askRoom whose room asked = andThen asked (λ text. ask (refusal Buffer whose) (leb (length text) room) (got text))
 
-abbrev pub bufferAfter : Reading Refusal (List ℕ) → List ℕ → List ℕ
-bufferAfter (got text) buffer = if leb (length text) (length buffer) then text ++ drop (length text) buffer else buffer
-bufferAfter (no r) buffer = buffer
+-- The answer, for a buffer of `room` bytes, to a text that is asked for or refused.
+abbrev pub numbersFor : Reading Refusal (List ℕ) → Numbers
+numbersFor (got text) = written (length text)
+numbersFor (no r) = refused r
+
+abbrev pub answered : ℕ → Reading Refusal (List ℕ) → ℕ → Numbers
+answered whose asked room = numbersFor (askRoom whose room asked)
+
+-- What the buffer holds afterwards. Bytes past the text stay; a refusal leaves the buffer.
+abbrev pub bufferWith : Reading Refusal (List ℕ) → List ℕ → List ℕ
+bufferWith (got text) buffer = text ++ drop (length text) buffer
+bufferWith (no r) buffer = buffer
+
+abbrev pub bufferAfter : ℕ → Reading Refusal (List ℕ) → List ℕ → List ℕ
+bufferAfter whose asked buffer = bufferWith (askRoom whose (length buffer) asked) buffer
 
 -- both, for a text that is asked for
 pub record Printed (whose : ℕ) (text before after : List ℕ) (answer : Answer) : Type 0 where
   pub answer-is : numbersOf answer ≡ answered whose (got text) (length before)
-  pub buffer-is : after ≡ bufferAfter (got text) before
+  pub buffer-is : after ≡ bufferAfter whose (got text) before

@@ -3,7 +3,7 @@ ghost use mathlib.Core.Path.{_≡_};
 ghost use Prim.Native.Nat.{_≤_};
 ghost use lib.ListN.{length};
 ghost use Rattle.line.specs.Line.{lineWords, lineText};
-ghost use Rattle.reading.specs.Reading.{refusal};
+ghost use Rattle.question.specs.Reading.{refusal};
 ghost use Rattle.printed.specs.Printed.{Printed};
 use line::put_line;
 use outcome::Outcome;

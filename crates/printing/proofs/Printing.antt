@@ -17,19 +17,19 @@ use Rattle.question.specs.declared.Question.the-variants.{Buffer}
 use Rattle.question.specs.Question.{numberOf}
 use Rattle.question.proofs.Numbers.{numbered}
 use Rattle.member.specs.Member.{Member}
-use Rattle.reading.specs.Reading.{Reading, got, refusal}
-use Rattle.reading.specs.Reading as reading
+use Rattle.question.specs.Reading.{Reading, got, refusal}
+use Rattle.question.specs.Reading as reading
 use Rattle.schedule.specs.Schedule.{schedule}
 use Rattle.schedule.proofs.Accepted.{schedule-accepted}
 use Rattle.printed.specs.declared.Answer.{Answer}
 use Rattle.printed.specs.declared.Answer.the-variants.{Written, Refused}
 use Rattle.lines.specs.Lines.{reportText}
-use Rattle.printed.specs.Printed.{Numbers, numbersOf, answered, bufferAfter}
+use Rattle.printed.specs.Printed.{Numbers, numbersOf, askRoom, answered, bufferAfter}
 use Rattle.printed.specs.Printed.{written as writtenTo, refused as refusedBy}
 use Rattle.report.specs.Report.{reportOf, printed}
 use Rattle.report.specs.Claim.{Reported}
 use Rattle.lines.proofs.Length.{report-short}
-use Rattle.printing.specs.Printing.{refusalText, shown, outputOf, askRoom, PrintedSchedule}
+use Rattle.printing.specs.Printing.{refusalText, shown, outputOf, PrintedSchedule}
 
 -- a text that fits was put
 put-text : (s d d′ : List ℕ) (n : ℕ) → length d < lastPosition → length s ≤ length d → n ≡ length s → d′ ≡ s ++ drop (length s) d → Put d 0 s d′ n
@@ -76,11 +76,11 @@ no-refusal s d ms r f h e = numbered (r .question) (ap question (rw (f, le-leb (
 
 -- what `print_schedule` promises of it
 record Shown (o : Reading Refusal (List ℕ)) (d d′ : List ℕ) (n : ℕ) : Type 0 where
-  put : Put d 0 (shown (askRoom (length d) o)) d′ n
+  put : Put d 0 (shown (askRoom 0 (length d) o)) d′ n
   whole : 60000 ≤ length d → (n ≡ length (shown o)) × (d′ ≡ shown o ++ drop (length (shown o)) d)
 
 module _ (d d′ : List ℕ) (n : ℕ) where
-  written : (o : Reading Refusal (List ℕ)) → length d < lastPosition → writtenTo n ≡ answered 0 o (length d) → d′ ≡ bufferAfter o d → Shown o d d′ n
+  written : (o : Reading Refusal (List ℕ)) → length d < lastPosition → writtenTo n ≡ answered 0 o (length d) → d′ ≡ bufferAfter 0 o d → Shown o d d′ n
   written (got t) k e f = go (decLe (length t) (length d))
     where
       go : Dec (length t ≤ length d) → Shown (got t) d d′ n
@@ -95,7 +95,7 @@ module _ (d d′ : List ℕ) (n : ℕ) where
   written (reading.no r) k e f = absurd (numbered (r .question) (sym (ap question e)))
 
   refused : (o : Reading Refusal (List ℕ)) (r : Refusal) (d₁ : List ℕ) → ((t : List ℕ) → o ≡ got t → length t ≤ 60000) → length (refusalText r) ≤ 60000 →
-      refusedBy r ≡ answered 0 o (length d) → d₁ ≡ bufferAfter o d → Put d₁ 0 (refusalText r) d′ n → Shown o d d′ n
+      refusedBy r ≡ answered 0 o (length d) → d₁ ≡ bufferAfter 0 o d → Put d₁ 0 (refusalText r) d′ n → Shown o d d′ n
   refused (got t) r d₁ s u e f w = go (decLe (length t) (length d))
     where
       go : Dec (length t ≤ length d) → Shown (got t) d d′ n

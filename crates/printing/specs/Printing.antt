@@ -2,16 +2,14 @@
 use Prim.Native.Nat.{ℕ, _≤_}
 use mathlib.Core.Path.{_≡_}
 use mathlib.Core.List.{List, _++_}
-use lib.Dec.{leb}
 use lib.ListN.{length, take, drop}
-use Rattle.quantity.specs.Choice.{if_then_else_}
 use Rattle.text.specs.Put.{Put}
 use Rattle.line.specs.Line.{refusalWords, lineText}
-use Rattle.question.specs.declared.Question.the-variants.{Buffer}
 use Rattle.question.specs.declared.Refusal.{Refusal}
 use Rattle.question.specs.Question.{numberOf}
 use Rattle.member.specs.Member.{Member}
-use Rattle.reading.specs.Reading.{Reading, got, no, refusal}
+use Rattle.question.specs.Reading.{Reading, got, no}
+use Rattle.printed.specs.Printed.{askRoom}
 use Rattle.schedule.specs.Schedule.{schedule}
 use Rattle.lines.specs.Lines.{reportText}
 use Rattle.report.specs.Report.{reportOf}
@@ -29,15 +27,10 @@ shown (no r) = refusalText r
 unfoldable pub outputOf : List ℕ → List ℕ
 outputOf src = shown (reportOf src)
 
--- question 12: is the report at most `room` bytes?
-abbrev pub askRoom : ℕ → Reading Refusal (List ℕ) → Reading Refusal (List ℕ)
-askRoom room (got text) = if leb (length text) room then got text else no (refusal Buffer 0)
-askRoom room (no r) = no r
-
 -- What `print_schedule` promises, for all bytes and every buffer.
 pub record PrintedSchedule (src before after : List ℕ) (n : ℕ) : Type 0 where
   -- the report, or the refusal, 12 among them, is put at the buffer's start
-  pub put : Put before 0 (shown (askRoom (length before) (reportOf src))) after n
+  pub put : Put before 0 (shown (askRoom 0 (length before) (reportOf src))) after n
   -- 60,000 bytes are room for every report: then the output is whole, 12 is never the refusal, and the bytes past the output stay
   pub whole : 60000 ≤ length before → (n ≡ length (outputOf src)) × (after ≡ outputOf src ++ drop (length (outputOf src)) before)
   -- demand 3 of the text, wherever the report fits

@@ -12,23 +12,20 @@ use Rattle.quantity.proofs.Rounding.{expand}
 pub sub-mul : (m n k : ℕ) → (m - n) * k ≡ m * k - n * k
 sub-mul m n k = simp (mul-comm, mul-sub)
 
-pub mul-min : (k m n : ℕ) → k * min m n ≡ min (k * m) (k * n)
-mul-min k m n = go (decLe m n)
+mul-both : (k m n : ℕ) → (k * min m n ≡ min (k * m) (k * n)) × (k * max m n ≡ max (k * m) (k * n))
+mul-both k m n = go (decLe m n)
   where
-    go : Dec (m ≤ n) → k * min m n ≡ min (k * m) (k * n)
-    go (yes h) = rw (min-eq-left h) (omega (arith, mul-le-mul-left k h))
+    go : Dec (m ≤ n) → (k * min m n ≡ min (k * m) (k * n)) × (k * max m n ≡ max (k * m) (k * n))
+    go (yes h) = rw (min-eq-left h, max-eq-right h) (omega (arith, mul-le-mul-left k h))
     go (no h) =
         let g : n ≤ m = omega arith in
-        rw (min-eq-right g) (omega (arith, mul-le-mul-left k g))
+        rw (min-eq-right g, max-eq-left g) (omega (arith, mul-le-mul-left k g))
+
+pub mul-min : (k m n : ℕ) → k * min m n ≡ min (k * m) (k * n)
+mul-min k m n = mul-both k m n .0
 
 pub mul-max : (k m n : ℕ) → k * max m n ≡ max (k * m) (k * n)
-mul-max k m n = go (decLe m n)
-  where
-    go : Dec (m ≤ n) → k * max m n ≡ max (k * m) (k * n)
-    go (yes h) = rw (max-eq-right h) (omega (arith, mul-le-mul-left k h))
-    go (no h) =
-        let g : n ≤ m = omega arith in
-        rw (max-eq-left g) (omega (arith, mul-le-mul-left k g))
+mul-max k m n = mul-both k m n .1
 
 pub min-mul : (m n k : ℕ) → min m n * k ≡ min (m * k) (n * k)
 min-mul m n k = simp (mul-comm, mul-min)
@@ -58,61 +55,43 @@ same-sym e = record { pos = e .pos′; pos′ = e .pos; same = sym (e .same) }
 times-eq : (k : ℕ) {m n : ℕ} → m ≡ n → m * k ≡ n * k
 times-eq k e = ap (λ (x : ℕ). x * k) e
 
-trans-core : (n d m k r s : ℕ) → n * k ≡ m * d → m * s ≡ r * k → n * s * k ≡ r * d * k
-trans-core n d m k r s u v = simp expand (omega (arith, simp expand at (times-eq s u), simp expand at (times-eq d v)))
-
 pub same-trans : {a b c : Frac} → Same a b → Same b c → Same a c
 same-trans {a} {b} {c} u v =
-    record {
-      pos = u .pos;
-      pos′ = v .pos′;
-      same = eq-of-mul-eq-mul-right (b .den) (v .pos) _ _ (trans-core (a .num) (a .den) (b .num) (b .den) (c .num) (c .den) (u .same) (v .same));
-    }
+    let t : a .num * c .den * b .den ≡ c .num * a .den * b .den =
+    simp expand (omega (arith, simp expand at (times-eq (c .den) (u .same)), simp expand at (times-eq (a .den) (v .same)))) in
+    record { pos = u .pos; pos′ = v .pos′; same = eq-of-mul-eq-mul-right (b .den) (v .pos) _ _ t }
 
 -- Each operation respects it. The four that bring to one denominator share their work.
-module _ (n d m k r s t w : ℕ) (u : n * k ≡ m * d) (v : r * w ≡ t * s) where
-  sum-core : (n * s + d * r) * (k * w) ≡ (m * w + k * t) * (d * s)
-  sum-core = simp level (omega (arith, simp level at (times-eq (s * w) u), simp level at (times-eq (d * k) v)))
-
-  difference-core : (n * s - d * r) * (k * w) ≡ (m * w - k * t) * (d * s)
-  difference-core = simp level (omega (arith, simp level at (times-eq (s * w) u), simp level at (times-eq (d * k) v)))
-
-  smaller-core : min (n * s) (d * r) * (k * w) ≡ min (m * w) (k * t) * (d * s)
-  smaller-core = simp level (omega (arith, simp level at (times-eq (s * w) u), simp level at (times-eq (d * k) v)))
-
-  larger-core : max (n * s) (d * r) * (k * w) ≡ max (m * w) (k * t) * (d * s)
-  larger-core = simp level (omega (arith, simp level at (times-eq (s * w) u), simp level at (times-eq (d * k) v)))
-
-  product-core : n * r * (k * w) ≡ m * t * (d * s)
-  product-core = simp mul-mul-mul-comm (ap (λ (x : ℕ). x * (r * w)) u ∙ ap (λ (x : ℕ). m * d * x) v)
-
-  quotient-core : n * s * (k * t) ≡ m * w * (d * r)
-  quotient-core = simp level (omega (arith, simp level at (times-eq (s * t) u), simp level at (times-eq (m * d) v)))
-
 module _ {a b x y : Frac} (u : Same a b) (v : Same x y) where
+  first : a .num * b .den * (x .den * y .den) ≡ b .num * a .den * (x .den * y .den)
+  first = times-eq (x .den * y .den) (u .same)
+
+  second : x .num * y .den * (a .den * b .den) ≡ y .num * x .den * (a .den * b .den)
+  second = times-eq (a .den * b .den) (v .same)
+
   -- over the products of the lower parts
   both : {n m : ℕ} → n * (b .den * y .den) ≡ m * (a .den * x .den) → Same (n // (a .den * x .den)) (m // (b .den * y .den))
   both e = record { pos = mul-pos (u .pos) (v .pos); pos′ = mul-pos (u .pos′) (v .pos′); same = e }
 
   pub same-sum : Same (a ⊕ x) (b ⊕ y)
   unfolding _⊕_
-  same-sum = both (sum-core (a .num) (a .den) (b .num) (b .den) (x .num) (x .den) (y .num) (y .den) (u .same) (v .same))
+  same-sum = both (simp level (omega (arith, simp level at first, simp level at second)))
 
   pub same-difference : Same (a ⊖ x) (b ⊖ y)
   unfolding _⊖_
-  same-difference = both (difference-core (a .num) (a .den) (b .num) (b .den) (x .num) (x .den) (y .num) (y .den) (u .same) (v .same))
+  same-difference = both (simp level (omega (arith, simp level at first, simp level at second)))
 
   pub same-smaller : Same (smaller a x) (smaller b y)
   unfolding smaller
-  same-smaller = both (smaller-core (a .num) (a .den) (b .num) (b .den) (x .num) (x .den) (y .num) (y .den) (u .same) (v .same))
+  same-smaller = both (simp level (omega (arith, simp level at first, simp level at second)))
 
   pub same-larger : Same (larger a x) (larger b y)
   unfolding larger
-  same-larger = both (larger-core (a .num) (a .den) (b .num) (b .den) (x .num) (x .den) (y .num) (y .den) (u .same) (v .same))
+  same-larger = both (simp level (omega (arith, simp level at first, simp level at second)))
 
   pub same-product : Same (a ⊗ x) (b ⊗ y)
   unfolding _⊗_
-  same-product = both (product-core (a .num) (a .den) (b .num) (b .den) (x .num) (x .den) (y .num) (y .den) (u .same) (v .same))
+  same-product = both (simp mul-mul-mul-comm (ap (λ (n : ℕ). n * (x .num * y .den)) (u .same) ∙ ap (λ (n : ℕ). b .num * a .den * n) (v .same)))
 
   pub same-quotient : (0 < x .num) × (0 < y .num) → Same (a ⊘ x) (b ⊘ y)
   unfolding _⊘_
@@ -120,7 +99,8 @@ module _ {a b x y : Frac} (u : Same a b) (v : Same x y) where
       record {
         pos = mul-pos (u .pos) (p .0);
         pos′ = mul-pos (u .pos′) (p .1);
-        same = quotient-core (a .num) (a .den) (b .num) (b .den) (x .num) (x .den) (y .num) (y .den) (u .same) (v .same);
+        same =
+            simp level (omega (arith, simp level at (times-eq (x .den * y .num) (u .same)), simp level at (times-eq (b .num * a .den) (v .same))));
       }
 
 -- A product goes into a smaller and a larger of two and into a difference.
@@ -150,45 +130,48 @@ module _ (a b : Frac) (p : 0 < a .den) (q : 0 < b .den) where
   unfolding larger
   proper-larger = mul-pos p q
 
+-- ... of a quotient where the divisor is above 0, as a product of two that are
+pub proper-quotient : (a b : Frac) → Proper a → 0 < b .num → Proper (a ⊘ b)
+unfolding _⊘_
+proper-quotient a b p q = mul-pos p q
+
+pub positive-product : (a b : Frac) → 0 < a .num → 0 < b .num → 0 < (a ⊗ b) .num
+unfolding _⊗_
+positive-product a b p q = mul-pos p q
+
 -- Order and nearness.
-le-core : (n d m k x y : ℕ) → n * k ≡ m * d → n * y ≤ x * d → m * y * d ≤ x * k * d
-le-core n d m k x y u v = simp expand (omega (arith, simp expand at (times-eq y u), simp expand at (mul-le-mul-right k v)))
+module _ {a b : Frac} (x : Frac) (e : Same a b) where
+  pub same-≼ : a ≼ x → b ≼ x
+  same-≼ h =
+      let t : b .num * x .den * a .den ≤ x .num * b .den * a .den =
+      simp expand (omega (arith, simp expand at (times-eq (x .den) (e .same)), simp expand at (mul-le-mul-right (b .den) h))) in
+      le-of-mul-le-mul-right t (e .pos)
 
-ge-core : (n d m k x y : ℕ) → n * k ≡ m * d → x * d ≤ n * y → x * k * d ≤ m * y * d
-ge-core n d m k x y u v = simp expand (omega (arith, simp expand at (times-eq y u), simp expand at (mul-le-mul-right k v)))
+  pub ≼-same : x ≼ a → x ≼ b
+  ≼-same h =
+      let t : x .num * b .den * a .den ≤ b .num * x .den * a .den =
+      simp expand (omega (arith, simp expand at (times-eq (x .den) (e .same)), simp expand at (mul-le-mul-right (b .den) h))) in
+      le-of-mul-le-mul-right t (e .pos)
 
-pub same-≼ : {a b : Frac} (x : Frac) → Same a b → a ≼ x → b ≼ x
-same-≼ {a} {b} x e h =
-    le-of-mul-le-mul-right (le-core (a .num) (a .den) (b .num) (b .den) (x .num) (x .den) (e .same) h) (e .pos)
+  pub same-≺ : a ≺ x → b ≺ x
+  same-≺ h =
+      let t : b .num * x .den * a .den < x .num * b .den * a .den =
+      simp expand (omega (arith, simp expand at (times-eq (x .den) (e .same)), simp expand at (mul-lt-mul-of-pos-right h (e .pos′)))) in
+      lt-of-mul-lt-mul-right (a .den) t
 
-pub ≼-same : {a b : Frac} (x : Frac) → Same a b → x ≼ a → x ≼ b
-≼-same {a} {b} x e h =
-    le-of-mul-le-mul-right (ge-core (a .num) (a .den) (b .num) (b .den) (x .num) (x .den) (e .same) h) (e .pos)
-
-lt-core : (n d m k x y : ℕ) → n * k ≡ m * d → n * y * k < x * d * k → m * y * d < x * k * d
-lt-core n d m k x y u v = simp expand (omega (arith, simp expand at (times-eq y u), simp expand at v))
-
-pub same-≺ : {a b : Frac} (x : Frac) → Same a b → a ≺ x → b ≺ x
-same-≺ {a} {b} x e h =
-    lt-of-mul-lt-mul-right (a .den)
-    (lt-core (a .num) (a .den) (b .num) (b .den) (x .num) (x .den) (e .same) (mul-lt-mul-of-pos-right h (e .pos′)))
-
-gt-core : (n d m k x y : ℕ) → n * k ≡ m * d → x * d * k < n * y * k → x * k * d < m * y * d
-gt-core n d m k x y u v = simp expand (omega (arith, simp expand at (times-eq y u), simp expand at v))
-
-pub ≺-same : {a b : Frac} (x : Frac) → Same a b → x ≺ a → x ≺ b
-≺-same {a} {b} x e h =
-    lt-of-mul-lt-mul-right (a .den)
-    (gt-core (a .num) (a .den) (b .num) (b .den) (x .num) (x .den) (e .same) (mul-lt-mul-of-pos-right h (e .pos′)))
+  pub ≺-same : x ≺ a → x ≺ b
+  ≺-same h =
+      let t : x .num * b .den * a .den < b .num * x .den * a .den =
+      simp expand (omega (arith, simp expand at (times-eq (x .den) (e .same)), simp expand at (mul-lt-mul-of-pos-right h (e .pos′)))) in
+      lt-of-mul-lt-mul-right (a .den) t
 
 -- ---- Order.
 
-≼-core : (n d m k r s : ℕ) → n * k ≤ m * d → m * s ≤ r * k → n * s * k ≤ r * d * k
-≼-core n d m k r s u v = simp expand (omega (arith, simp expand at (mul-le-mul-right s u), simp expand at (mul-le-mul-right d v)))
-
 pub ≼-trans : (a b c : Frac) → Proper b → a ≼ b → b ≼ c → a ≼ c
 ≼-trans a b c p u v =
-    le-of-mul-le-mul-right (≼-core (a .num) (a .den) (b .num) (b .den) (c .num) (c .den) u v) p
+    let t : a .num * c .den * b .den ≤ c .num * a .den * b .den =
+    simp expand (omega (arith, simp expand at (mul-le-mul-right (c .den) u), simp expand at (mul-le-mul-right (a .den) v))) in
+    le-of-mul-le-mul-right t p
 
 pub scale-≼ : (k : ℕ) (a l : Frac) → 0 < k → whole k ⊗ a ≼ whole k ⊗ l → a ≼ l
 unfolding _⊗_

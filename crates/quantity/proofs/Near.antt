@@ -17,10 +17,10 @@ use native.Mathlib.Nat.{
 }
 use native.Mathlib.Omega.{arith}
 use Rattle.quantity.specs.Rounding.{up, down}
-use Rattle.quantity.specs.Fraction.{Frac, _//_, whole, _⊕_, _⊖_, _⊗_, smaller, larger, _≼_, _≺_}
+use Rattle.quantity.specs.Fraction.{Frac, _//_, whole, Proper, _⊕_, _⊖_, _⊗_, _⊘_, smaller, larger, _≼_, _≺_}
 use Rattle.quantity.specs.Safe.{NotBelow}
 use Rattle.quantity.proofs.Rounding.{expand, up-above, up-below, down-above, down-below, up-le, down-le}
-use Rattle.quantity.proofs.Fraction.{spread, Same, same-≼}
+use Rattle.quantity.proofs.Fraction.{spread, level, Same, same-≼}
 use Rattle.quantity.proofs.Safe.{not-below}
 
 -- A fraction times and over a whole number, without more in the other part.
@@ -299,6 +299,13 @@ same-over {k = k} p e =
       pos′ = mul-pos (e .pos′) p;
       same = simp (← mul-assoc) (ap (λ (x : ℕ). x * k) (e .same));
     }
+
+-- a quotient by a product, times one of its factors
+pub quotient-times : (k : ℕ) (a b c : Frac) → Proper a → 0 < b .num → 0 < c .num → Proper c →
+    Same ((a ⊘ (b ⊗ c)) ⊗ times k c) (times k (a ⊘ b))
+unfolding _⊗_ _⊘_ times
+quotient-times k a b c p q r s =
+    record { pos = mul-pos (mul-pos p (mul-pos q r)) s; pos′ = mul-pos p q; same = simp level (omega arith) }
 
 near-core : (M n d m k x l : ℕ) → n * k ≡ m * d → M * n ≤ M * (x * d) + l * d → M * m * d ≤ (M * (x * k) + l * k) * d
 near-core M n d m k x l u v = simp expand (omega (arith, simp expand at (ap (λ (z : ℕ). M * z) u), simp expand at (mul-le-mul-right k v)))

@@ -1,10 +1,13 @@
 -- Laws of safe figures: how a rounding gives one, and what a verdict by it says of the exact fraction.
 use Prim.Native.Nat.{ℕ, _+_, _-_, _*_, _<_, _≤_}
+use mathlib.Core.Bool.{Bool}
 use native.Mathlib.Nat.{mul-pos, mul-le-mul-left, mul-le-mul-right, mul-lt-mul-of-pos-right}
 use native.Mathlib.Omega.{arith}
+use lib.Dec.{leb}
 use Rattle.quantity.specs.Rounding.{up, down}
 use Rattle.quantity.specs.Fraction.{Frac, _//_, whole, Proper, _⊕_, _⊖_, _≼_, _≺_}
 use Rattle.quantity.specs.Safe.{NotAbove, NotBelow}
+use Rattle.quantity.proofs.Reflects.{Settles, settles-as, compared}
 use Rattle.quantity.proofs.Rounding.{expand, up-above, up-below, down-below, down-above}
 use Rattle.quantity.proofs.Fraction.{
   level,
@@ -91,18 +94,29 @@ excess-core m k v p q x y pq u h l =
       simp level at (mul-le-mul-right (y * k) t),
     ))
 
-module _ {v d : ℕ} {e a : Frac} (n : NotAbove v e a) where
-  pub capacity-pass : d ≤ v → whole d ≼ a
+module _ {v : ℕ} (d : ℕ) {e a : Frac} (n : NotAbove v e a) where
+  capacity-pass : d ≤ v → whole d ≼ a
   capacity-pass h = omega (arith, n .safe, mul-le-mul-right (a .den) h)
 
-  pub capacity-fail : v < d → a ⊖ whole d ≺ e
+  capacity-fail : v < d → a ⊖ whole d ≺ e
   unfolding _⊖_ _⊕_
   capacity-fail h = lack-core (a .num) (a .den) v d (e .num) (e .den) (n .safe) (above-within n) h
 
+  pub capacity-settles : Settles (leb d v) (whole d ≼ a) (a ⊖ whole d ≺ e)
+  capacity-settles = settles-as capacity-pass capacity-fail (compared d v)
+
 module _ {v : ℕ} {e a : Frac} (l : Frac) (p : Proper l) (n : NotBelow v e a) where
-  pub limit-pass : whole v ≼ l → a ≼ l
+  limit-pass : whole v ≼ l → a ≼ l
   limit-pass h = ≼-trans a (whole v) l (omega arith) (n .safe) h
 
-  pub limit-fail : l ≺ whole v → l ⊖ a ≺ e
+  limit-fail : l ≺ whole v → l ⊖ a ≺ e
   unfolding _⊖_ _⊕_
   limit-fail h = excess-core (a .num) (a .den) v (l .num) (l .den) (e .num) (e .den) p (n .safe) (below-within n) h
+
+  -- by any test that compares the figure with the limit
+  pub limit-settles : {t : Bool} → Settles t (whole v ≼ l) (l ≺ whole v) → Settles t (a ≼ l) (l ⊖ a ≺ e)
+  limit-settles = settles-as limit-pass limit-fail
+
+-- a limit that is a whole number
+pub length-settles : {v : ℕ} (g : ℕ) {e a : Frac} → NotBelow v e a → Settles (leb v g) (a ≼ whole g) (whole g ⊖ a ≺ e)
+length-settles {v} g n = limit-settles (whole g) (omega arith) n (settles-as (λ h. omega arith) (λ h. omega arith) (compared v g))

@@ -1,3 +1,4 @@
+pub mod All
 pub mod Choice
 pub mod Rounding
 pub mod Fraction

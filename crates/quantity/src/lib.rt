@@ -1,7 +1,7 @@
 // Whole-number arithmetic with stated rounding, and the codes' units as types of their own.
 ghost use mathlib.Core.Path.{_≡_};
 ghost use mathlib.Core.Bool.{_&&_, _||_};
-ghost use Prim.Native.Nat.{_+_, _-_, _*_, _<_, _≤_, _^_, min, max};
+ghost use Prim.Native.Nat.{_+_, _-_, _*_, _<_, _^_, min, max};
 ghost use Rattle.quantity.specs.Choice.{if_then_else_};
 ghost use Rattle.quantity.specs.Rounding.{up, down, clamp};
 ghost use Rattle.quantity.specs.Unit.{newtons, millimetres, stressOf, stressOfTenths, stressOfHundredths, inUnits, inTenths, inHundredths};
@@ -44,7 +44,7 @@ pub fn less(a: u64, b: u64) -> u64
 
 // The value that a test picks.
 pub fn chosen(test: bool, yes: u64, no: u64) -> u64
-    ensures { λ r. ⌜ (r ≡ (if test then yes else no)) × (r ≤ max yes no) ⌝ }
+    ensures { λ r. ⌜ r ≡ (if test then yes else no) ⌝ }
 {
     if test { yes } else { no }
 }

@@ -29,6 +29,13 @@ pub enum Question {
     Buffer,
 }
 
+// What questions put one after the other come to.
+pub enum Verdict {
+    Accepted,
+    // the first question that is answered no
+    Refused(Question),
+}
+
 // A no: the question, and the member's place in the schedule, from 1.
 // The place is 0 for questions 1, 4, 11 and 12 of a schedule, and for 2 and 3 put to the count itself; a built member's refusals all have 1.
 pub struct Refusal {

@@ -32,12 +32,9 @@ ratio-nearest a b h k = go (eqb b 0) refl
 
 ratio-decides : (a b : ℕ) → b < 2 ^ 53 → Decides (ratio nearest a b .reached) (ratio nearest a b .value) (leb a b)
 unfolding ratio
-ratio-decides a b k = go (eqb b 0) refl
-  where
-    go : (t : Bool) → eqb b 0 ≡ t →
-        Decides ((if t then noRatio else record { value = nearest a b; reached = true }) .reached) ((if t then noRatio else record { value = nearest a b; reached = true }) .value) (leb a b)
-    go true e = λ r. absurd (false≢true r)
-    go false e = λ r. at-most-one a b (some b e) k
+ratio-decides a b k =
+    if-case (λ (r : Ratio). Decides (r .reached) (r .value) (leb a b)) (eqb b 0) noRatio (record { value = nearest a b; reached = true })
+    (λ _ r. absurd (false≢true r)) (λ e r. at-most-one a b (some b e) k)
 
 pub figure-nearest : (a : ℕ) (f : Figure) → a < 2 ^ 53 → ExactFigure f → overFigure quotient a f ≡ overFigure nearest a f
 unfolding overFigure

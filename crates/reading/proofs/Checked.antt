@@ -9,9 +9,10 @@ use Rattle.question.specs.declared.Question.{Question}
 use Rattle.number.specs.declared.Number.{Number}
 use Rattle.number.specs.declared.Number.the-variants.{Value, Refused}
 use Rattle.number.specs.Number.{numberAt}
-use Rattle.reading.specs.Reading.{Reading, got, no, Placed, placed, andThen, ask, ofNumber}
+use Rattle.question.specs.Reading.{Reading, got, no, andThen, ask}
+use Rattle.reading.specs.Placed.{Placed, placed, ofNumber}
 use Rattle.reading.specs.Fields.{checked}
-use Rattle.built.specs.declared.Verdict.the-variants as verdicts
+use Rattle.question.specs.declared.Verdict.the-variants as verdicts
 use Rattle.reading.specs.declared.Run.{Run}
 use Rattle.reading.specs.Result.{runOf}
 

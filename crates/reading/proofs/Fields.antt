@@ -12,7 +12,8 @@ use Rattle.domain.specs.declared.Domain.{Domain}
 use Rattle.domain.specs.declared.Domain.the-variants.{Grade}
 use Rattle.domain.specs.Domain.{asked, holds}
 use Rattle.field.proofs.Tables.{drop-one}
-use Rattle.reading.specs.Reading.{got, no, placed, andThen, ofNumber}
+use Rattle.question.specs.Reading.{got, no, andThen}
+use Rattle.reading.specs.Placed.{placed, ofNumber}
 use Rattle.reading.specs.Fields.{checked, field, fields}
 
 module _ (fs : List Domain) (s : List ℕ) (p i : ℕ) (v : List ℕ) where

@@ -4,23 +4,23 @@ use mathlib.Core.Path.{_≡_, refl, sym, ap, _∙_}
 use mathlib.Core.Bool.{Bool, true, false, _&&_}
 use mathlib.Core.List.{List, [], _∷_}
 use native.Mathlib.Omega.{arith}
-use lib.Dec.{T, ltb}
 use lib.ListN.{length, getD, set, length-set}
 use lib.Seq.{getD-set-same, getD-set-other}
-use borrow.Author.Tests.{ltb-true}
 use Rattle.quantity.proofs.Choice.{if-case, both-true}
-use Rattle.table.proofs.Table.{every-at}
 use Rattle.question.specs.declared.Question.{Question}
 use Rattle.question.specs.declared.Question.the-variants.{Field}
 use Rattle.number.specs.declared.Number.the-variants.{Value}
 use Rattle.number.specs.Number.{numberAt}
 use Rattle.domain.specs.declared.Domain.{Domain}
-use Rattle.domain.specs.declared.Domain.the-variants.{Range, ZeroOr, Bar, Grade, Steel, LinkSteel, GroupDiameter, GroupBars}
-use Rattle.domain.specs.Domain.{asked, holds, fieldHolds}
-use Rattle.field.specs.Fields.{kinds, fieldsOf, known}
+use Rattle.domain.specs.Domain.{presence, asked, holds, fieldHolds}
+use Rattle.domain.proofs.Asked.{countBelow, asked-same}
+use Rattle.field.specs.declared.MemberKind.{MemberKind}
+use Rattle.field.specs.declared.MemberKind.the-variants.{Beam, Column, Mesh}
+use Rattle.field.specs.Fields.{fieldsOf}
 use Rattle.slots.specs.Slots.{fieldsHold}
-use Rattle.field.proofs.Tables.{known-below, fields-fit}
-use Rattle.reading.specs.Reading.{Reading, got, no, Placed, placed, andThen}
+use Rattle.field.proofs.Tables.{fields-fit}
+use Rattle.question.specs.Reading.{Reading, got, no, andThen}
+use Rattle.reading.specs.Placed.{Placed, placed}
 use Rattle.reading.specs.Fields.{empty, field, fields}
 use Rattle.reading.proofs.Checked.{on-checked}
 
@@ -39,31 +39,9 @@ on-field P d s p i v absent stored refused =
 
 -- ---- Counts before groups.
 
-unfoldable pub countBelow : Domain → ℕ → Bool
-countBelow (GroupDiameter k j) i = ltb k i
-countBelow (GroupBars k j) i = ltb k i
-countBelow (Range a b) i = true
-countBelow (ZeroOr a b) i = true
-countBelow (Bar a b) i = true
-countBelow Grade i = true
-countBelow Steel i = true
-countBelow LinkSteel i = true
-
 unfoldable pub ordered : ℕ → List Domain → Bool
 ordered i [] = true
-ordered i (d ∷ ds) = countBelow d i && ordered (i + 1) ds
-
--- whether a field is asked turns on slots below its own
-pub asked-same : (d : Domain) (i : ℕ) (v w : List ℕ) → countBelow d i ≡ true → ((j : ℕ) → j < i → getD w j 0 ≡ getD v j 0) → asked d w ≡ asked d v
-unfolding asked countBelow
-asked-same (GroupDiameter k j) i v w b same = rw (same k (ltb-true k i b))
-asked-same (GroupBars k j) i v w b same = rw (same k (ltb-true k i b))
-asked-same (Range _ _) i v w b same = refl
-asked-same (ZeroOr _ _) i v w b same = refl
-asked-same (Bar _ _) i v w b same = refl
-asked-same Grade i v w b same = refl
-asked-same Steel i v w b same = refl
-asked-same LinkSteel i v w b same = refl
+ordered i (d ∷ ds) = countBelow (presence d) i && ordered (i + 1) ds
 
 -- ---- Held.
 
@@ -100,23 +78,16 @@ module _ (s w : List ℕ) (q : ℕ) where
       (λ r e. absurd (let z : _≡_ {A = ℕ} 0 1 = cc in omega arith))
       u
     where
-      b : (countBelow d i ≡ true) × (ordered (i + 1) ds ≡ true)
-      b = both-true (countBelow d i) (ordered (i + 1) ds) o
+      b : (countBelow (presence d) i ≡ true) × (ordered (i + 1) ds ≡ true)
+      b = both-true (countBelow (presence d) i) (ordered (i + 1) ds) o
 
-inOrder : ℕ → List Domain → Bool
-inOrder k fs = ordered 0 fs
-
-T-true : (b : Bool) → T b → b ≡ true
-T-true true t = refl
-T-true false t = absurd t
-
-pub in-order : (kind : ℕ) → known kind ≡ true → ordered 0 (fieldsOf kind) ≡ true
-unfolding inOrder ordered countBelow fieldsOf
-in-order kind k = T-true _ (every-at inOrder [] kinds tt kind (known-below kind k))
+pub in-order : (kind : MemberKind) → ordered 0 (fieldsOf kind) ≡ true
+unfolding ordered fieldsOf
+in-order Beam = refl
+in-order Column = refl
+in-order Mesh = refl
 
 -- fields of a kind that were read pass question 7
-pub fields-held : (s w : List ℕ) (p q kind : ℕ) → known kind ≡ true → fields (fieldsOf kind) s p 0 empty ≡ got (placed w q)
-    → fieldsHold (fieldsOf kind) 0 w ≡ true
+pub fields-held : (s w : List ℕ) (p q : ℕ) (kind : MemberKind) → fields (fieldsOf kind) s p 0 empty ≡ got (placed w q) → fieldsHold (fieldsOf kind) 0 w ≡ true
 unfolding End
-fields-held s w p q kind k e =
-    held s w q (fieldsOf kind) p 0 empty (in-order kind k) (omega (arith, fields-fit kind k)) e .holds-all
+fields-held s w p q kind e = held s w q (fieldsOf kind) p 0 empty (in-order kind) (omega (arith, fields-fit kind)) e .holds-all

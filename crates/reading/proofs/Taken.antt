@@ -14,18 +14,21 @@ use Rattle.number.specs.declared.Number.{Number}
 use Rattle.number.specs.declared.Number.the-variants.{Value, Refused}
 use Rattle.number.specs.Number.{numberAt}
 use Rattle.domain.specs.declared.Domain.{Domain}
-use Rattle.domain.specs.declared.Domain.the-variants.{Range, ZeroOr, Bar, Grade, Steel, LinkSteel, GroupDiameter, GroupBars}
-use Rattle.domain.specs.Domain.{asked, holds, fieldHolds}
-use Rattle.field.specs.Fields.{groups, beamFields, columnFields, meshFields, fieldsOf, known}
+use Rattle.domain.specs.declared.Domain.the-variants.{Range, GroupDiameter, GroupBars}
+use Rattle.domain.specs.Domain.{presence, isAlways, asked, holds, fieldHolds}
+use Rattle.domain.proofs.Asked.{countBelow, asked-same, always-asked}
+use Rattle.field.specs.declared.MemberKind.{MemberKind}
+use Rattle.field.specs.Fields.{tensionCount, compressionCount, beamLinks, columnCount, columnLinks, groups, beamFields, columnFields, meshFields, fieldsOf}
 use Rattle.slots.specs.Slots.{fieldsHold}
 use Rattle.field.proofs.Tables.{fields-fit}
 use Rattle.reading.specs.declared.Took.{Took}
 use Rattle.reading.specs.declared.Took.the-variants.{To}
 use Rattle.reading.specs.declared.Took.the-variants as took
-use Rattle.reading.specs.Reading.{Reading, got, no, Placed, placed, andThen}
+use Rattle.question.specs.Reading.{Reading, got, no, andThen}
+use Rattle.reading.specs.Placed.{Placed, placed}
 use Rattle.reading.specs.Fields.{empty, field, fields}
 use Rattle.reading.specs.Taken.{Stopped, stopped, storedBy, stored, run, taken, tookOf}
-use Rattle.reading.proofs.Held.{on-field, countBelow, ordered, asked-same, in-order}
+use Rattle.reading.proofs.Held.{on-field, ordered, in-order}
 
 -- ---- Cases.
 
@@ -82,8 +85,8 @@ module _ (s w : List ℕ) (q : ℕ) where
       (λ r e. absurd (let z : _≡_ {A = ℕ} 0 1 = cc in omega arith))
       u
     where
-      b : (countBelow d i ≡ true) × (ordered (i + 1) ds ≡ true)
-      b = both-true (countBelow d i) (ordered (i + 1) ds) o
+      b : (countBelow (presence d) i ≡ true) × (ordered (i + 1) ds ≡ true)
+      b = both-true (countBelow (presence d) i) (ordered (i + 1) ds) o
 
       t : (fieldHolds d i w ≡ true) × (fieldsHold ds (i + 1) w ≡ true)
       t = both-true (fieldHolds d i w) (fieldsHold ds (i + 1) w) h
@@ -103,11 +106,11 @@ module _ (s w : List ℕ) (q : ℕ) where
       u
 
 -- a member's fields that were taken and pass question 7 are those that are read
-pub taken-fields : (s w : List ℕ) (p q kind : ℕ) → known kind ≡ true → taken (fieldsOf kind) s p 0 empty ≡ got (placed w q) → fieldsHold (fieldsOf kind) 0 w ≡ true
+pub taken-fields : (s w : List ℕ) (p q : ℕ) (kind : MemberKind) → taken (fieldsOf kind) s p 0 empty ≡ got (placed w q) → fieldsHold (fieldsOf kind) 0 w ≡ true
     → fields (fieldsOf kind) s p 0 empty ≡ got (placed w q)
-taken-fields s w p q kind k e h = taken-read s w q (fieldsOf kind) p 0 empty (in-order kind k) (omega (arith, fields-fit kind k)) e h
+taken-fields s w p q kind e h = taken-read s w q (fieldsOf kind) p 0 empty (in-order kind) (omega (arith, fields-fit kind)) e h
 
-pub fields-taken : (s w : List ℕ) (p q kind : ℕ) → fields (fieldsOf kind) s p 0 empty ≡ got (placed w q) → taken (fieldsOf kind) s p 0 empty ≡ got (placed w q)
+pub fields-taken : (s w : List ℕ) (p q : ℕ) (kind : MemberKind) → fields (fieldsOf kind) s p 0 empty ≡ got (placed w q) → taken (fieldsOf kind) s p 0 empty ≡ got (placed w q)
 fields-taken s w p q kind e = read-taken s w q (fieldsOf kind) p 0 empty e
 
 -- ---- A row, as the code takes it.
@@ -176,30 +179,9 @@ module _ (Q : List ℕ → Type 0) (least : ℕ) (stays : (v : List ℕ) (i x : 
       (λ q. refl))
 
 -- Fields that are there whatever the slots hold.
-plain : Domain → Bool
-plain (GroupDiameter k j) = false
-plain (GroupBars k j) = false
-plain (Range lo hi) = true
-plain (ZeroOr lo hi) = true
-plain (Bar lo hi) = true
-plain Grade = true
-plain Steel = true
-plain LinkSteel = true
-
-plain-asked : (d : Domain) → plain d ≡ true → (v : List ℕ) → asked d v ≡ true
-unfolding plain asked
-plain-asked (GroupDiameter k j) e v = absurd (let z : _≡_ {A = ℕ} 0 1 = cc in omega arith)
-plain-asked (GroupBars k j) e v = absurd (let z : _≡_ {A = ℕ} 0 1 = cc in omega arith)
-plain-asked (Range lo hi) e v = refl
-plain-asked (ZeroOr lo hi) e v = refl
-plain-asked (Bar lo hi) e v = refl
-plain-asked Grade e v = refl
-plain-asked Steel e v = refl
-plain-asked LinkSteel e v = refl
-
 allPlain : List Domain → Bool
 allPlain [] = true
-allPlain (d ∷ ds) = plain d && allPlain ds
+allPlain (d ∷ ds) = isAlways (presence d) && allPlain ds
 
 Any : List ℕ → Type 0
 Any v = Unit {0}
@@ -211,7 +193,7 @@ any-stays v i x l h = tt
 plain-row : (fs : List Domain) → allPlain fs ≡ true → Row Any 0 any-stays fs (length fs)
 unfolding Row allPlain
 plain-row [] e = tt
-plain-row (d ∷ ds) e = let b = both-true (plain d) (allPlain ds) e in ((λ v _. plain-asked d (b .0) v), plain-row ds (b .1))
+plain-row (d ∷ ds) e = let b = both-true (isAlways (presence d)) (allPlain ds) e in ((λ v _. always-asked d v (b .0)), plain-row ds (b .1))
 
 plain-run : (fs : List Domain) → allPlain fs ≡ true → (s : List ℕ) (p i : ℕ) (v : List ℕ) → taken fs s p i v ≡ run (length fs) s p i v
 unfolding Any
@@ -285,26 +267,26 @@ module _ (s : List ℕ) where
 
   pub beam-rows : (p : ℕ) (v : List ℕ)
       → taken beamFields s p 0 v
-      ≡ andThen (run 9 s p 0 v) (λ a. andThen (listFrom 8 a) (λ b. andThen (rowFrom 1 17 b) (λ c. andThen (listFrom 17 c) (rowFrom 11 26))))
-  unfolding allPlain plain
+      ≡ andThen (run 9 s p 0 v) (λ a. andThen (listFrom tensionCount a) (λ b. andThen (rowFrom 1 compressionCount b) (λ c. andThen (listFrom compressionCount c) (rowFrom (length (drop 26 beamFields)) beamLinks))))
+  unfolding allPlain
   beam-rows p v =
       plain-then (take 9 beamFields) (drop 9 beamFields) refl p 0 v
       ∙ and-same (run 9 s p 0 v) _ _ (λ a.
-      taken-append (groups 8) (drop 17 beamFields) s (a .next) 9 (a .value)
-      ∙ and-same (listFrom 8 a) _ _ (λ b.
+      taken-append (groups tensionCount) (drop 17 beamFields) s (a .next) 9 (a .value)
+      ∙ and-same (listFrom tensionCount a) _ _ (λ b.
       plain-then (Range 0 4 ∷ []) (drop 18 beamFields) refl (b .next) 17 (b .value)
-      ∙ and-same (rowFrom 1 17 b) _ _ (λ c.
-      taken-append (groups 17) (drop 26 beamFields) s (c .next) 18 (c .value)
-      ∙ and-same (listFrom 17 c) _ _ (λ d. plain-run (drop 26 beamFields) refl s (d .next) 26 (d .value)))))
+      ∙ and-same (rowFrom 1 compressionCount b) _ _ (λ c.
+      taken-append (groups compressionCount) (drop 26 beamFields) s (c .next) 18 (c .value)
+      ∙ and-same (listFrom compressionCount c) _ _ (λ d. plain-run (drop 26 beamFields) refl s (d .next) 26 (d .value)))))
 
-  pub column-rows : (p : ℕ) (v : List ℕ) → taken columnFields s p 0 v ≡ andThen (run 5 s p 0 v) (λ a. andThen (listFrom 4 a) (rowFrom 4 13))
-  unfolding allPlain plain
+  pub column-rows : (p : ℕ) (v : List ℕ) → taken columnFields s p 0 v ≡ andThen (run 5 s p 0 v) (λ a. andThen (listFrom columnCount a) (rowFrom 4 columnLinks))
+  unfolding allPlain
   column-rows p v =
       plain-then (take 5 columnFields) (drop 5 columnFields) refl p 0 v
       ∙ and-same (run 5 s p 0 v) _ _ (λ a.
-      taken-append (groups 4) (drop 13 columnFields) s (a .next) 5 (a .value)
-      ∙ and-same (listFrom 4 a) _ _ (λ b. plain-run (drop 13 columnFields) refl s (b .next) 13 (b .value)))
+      taken-append (groups columnCount) (drop 13 columnFields) s (a .next) 5 (a .value)
+      ∙ and-same (listFrom columnCount a) _ _ (λ b. plain-run (drop 13 columnFields) refl s (b .next) 13 (b .value)))
 
   pub mesh-rows : (p : ℕ) (v : List ℕ) → taken meshFields s p 0 v ≡ run 11 s p 0 v
-  unfolding allPlain plain
+  unfolding allPlain
   mesh-rows p v = plain-run meshFields refl s p 0 v

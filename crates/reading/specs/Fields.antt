@@ -9,7 +9,8 @@ use Rattle.question.specs.declared.Question.the-variants.{Field}
 use Rattle.number.specs.Number.{numberAt}
 use Rattle.domain.specs.declared.Domain.{Domain}
 use Rattle.domain.specs.Domain.{holds, asked}
-use Rattle.reading.specs.Reading.{Reading, got, Placed, placed, andThen, ask, ofNumber}
+use Rattle.question.specs.Reading.{Reading, got, andThen, ask}
+use Rattle.reading.specs.Placed.{Placed, placed, ofNumber}
 
 -- the number at p: 2 and 3, then question q
 abbrev pub checked : Question → (ℕ → Bool) → List ℕ → ℕ → Reading Question (Placed ℕ)

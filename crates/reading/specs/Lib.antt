@@ -1,4 +1,4 @@
-pub mod Reading
+pub mod Placed
 pub mod Fields
 pub mod Taken
 pub mod Result

@@ -3,8 +3,9 @@ use Prim.Native.Nat.{ℕ}
 use mathlib.Core.List.{List}
 use Rattle.question.specs.declared.Question.{Question}
 use Rattle.reading.specs.declared.Run.{Run}
-use Rattle.built.specs.declared.Verdict.the-variants.{Accepted, Refused}
-use Rattle.reading.specs.Reading.{Reading, got, no, Placed}
+use Rattle.question.specs.declared.Verdict.the-variants.{Accepted, Refused}
+use Rattle.question.specs.Reading.{Reading, got, no}
+use Rattle.reading.specs.Placed.{Placed}
 use Rattle.reading.specs.Fields.{empty}
 
 -- a refusal has the place 0 and empty slots

@@ -12,7 +12,8 @@ use Rattle.domain.specs.Domain.{asked}
 use Rattle.reading.specs.declared.Took.{Took}
 use Rattle.reading.specs.declared.Took.the-variants.{To}
 use Rattle.reading.specs.declared.Took.the-variants as took
-use Rattle.reading.specs.Reading.{Reading, got, no, Placed, placed, andThen}
+use Rattle.question.specs.Reading.{Reading, got, no, andThen}
+use Rattle.reading.specs.Placed.{Placed, placed}
 
 -- a number refused, and the slots as they are then
 pub record Stopped : Type 0 where

@@ -1,22 +1,34 @@
 // Reads the fields of a member: one by one, each held to its domain, or all at once.
 ghost use mathlib.Core.Path.{_≡_};
-ghost use mathlib.Core.Bool.{true};
 ghost use Prim.Native.Nat.{_+_, _-_, _≤_, min};
 ghost use Rattle.domain.specs.Domain.{holds};
-ghost use Rattle.field.specs.Fields.{groups, beamFields, columnFields, fieldsOf, known};
-ghost use Rattle.reading.specs.Reading.{no, ofNumber};
+ghost use Rattle.field.specs.Fields.{groups, beamFields, columnFields, fieldsOf};
+ghost use Rattle.question.specs.Reading.{no};
+ghost use Rattle.reading.specs.Placed.{ofNumber};
 ghost use Rattle.reading.specs.Taken.{run, taken, tookOf};
 ghost use Rattle.reading.specs.Fields.{empty, checked, fields};
 ghost use Rattle.reading.specs.Result.{runOf};
-use built::Verdict;
 use domain::Domain;
 use domain::domain_asked;
 use domain::domain_holds;
+use field::BEAM_FIELDS;
+use field::BEAM_LINKS;
+use field::COLUMN_COUNT;
+use field::COLUMN_FIELDS;
+use field::COLUMN_GROUPS;
+use field::COLUMN_LINKS;
+use field::COMPRESSION_COUNT;
+use field::COMPRESSION_GROUPS;
+use field::MESH_FIELDS;
+use field::MemberKind;
+use field::TENSION_COUNT;
+use field::TENSION_GROUPS;
 use field::field_count;
 use field::field_of;
 use number::Number;
 use number::number_at;
 use question::Question;
+use question::Verdict;
 use slots::Slots;
 
 // Fields read so far: refused, or the slots and the place after the last field.
@@ -65,8 +77,7 @@ fn read_field(src: &[u8], at: usize, d: Domain) -> Number
 }
 
 // The fields of a kind, from `at` on.
-pub fn read_fields(src: &[u8], at: usize, kind: u32) -> Run
-    requires { ⌜ known kind ≡ true ⌝ }
+pub fn read_fields(src: &[u8], at: usize, kind: MemberKind) -> Run
     ensures { λ r. ⌜ r ≡ runOf (fields (fieldsOf kind) (now (src .entry)) at 0 empty) ⌝ }
 {
     let n = field_count(kind);
@@ -136,15 +147,21 @@ fn take_list(src: &[u8], at: usize, v: &mut [u32; 40], k: usize) -> Took
 fn take_beam(src: &[u8], at: usize, v: &mut [u32; 40]) -> Took
     ensures { λ r. ⌜ tookOf r (now (v .exit)) ≡ taken beamFields (now (src .entry)) at 0 (now (v .entry)) ⌝ }
 {
-    match take_run(src, at, v, 0, 9) {
+    match take_run(src, at, v, 0, TENSION_GROUPS) {
         Took::Refused(q) => Took::Refused(q),
-        Took::To(tension) => match take_list(src, tension, v, 8) {
+        Took::To(tension) => match take_list(src, tension, v, TENSION_COUNT) {
             Took::Refused(q) => Took::Refused(q),
-            Took::To(count) => match take_run(src, count, v, 17, 18) {
+            Took::To(count) => match take_run(
+                src,
+                count,
+                v,
+                COMPRESSION_COUNT,
+                COMPRESSION_GROUPS,
+            ) {
                 Took::Refused(q) => Took::Refused(q),
-                Took::To(compression) => match take_list(src, compression, v, 17) {
+                Took::To(compression) => match take_list(src, compression, v, COMPRESSION_COUNT) {
                     Took::Refused(q) => Took::Refused(q),
-                    Took::To(links) => take_run(src, links, v, 26, 37),
+                    Took::To(links) => take_run(src, links, v, BEAM_LINKS, BEAM_FIELDS),
                 },
             },
         },
@@ -155,23 +172,22 @@ fn take_beam(src: &[u8], at: usize, v: &mut [u32; 40]) -> Took
 fn take_column(src: &[u8], at: usize, v: &mut [u32; 40]) -> Took
     ensures { λ r. ⌜ tookOf r (now (v .exit)) ≡ taken columnFields (now (src .entry)) at 0 (now (v .entry)) ⌝ }
 {
-    match take_run(src, at, v, 0, 5) {
+    match take_run(src, at, v, 0, COLUMN_GROUPS) {
         Took::Refused(q) => Took::Refused(q),
-        Took::To(groups) => match take_list(src, groups, v, 4) {
+        Took::To(groups) => match take_list(src, groups, v, COLUMN_COUNT) {
             Took::Refused(q) => Took::Refused(q),
-            Took::To(links) => take_run(src, links, v, 13, 17),
+            Took::To(links) => take_run(src, links, v, COLUMN_LINKS, COLUMN_FIELDS),
         },
     }
 }
 
 // The fields of a kind from `at` on, into v: the place after them, or the refusal of a number.
-pub fn take_fields(src: &[u8], at: usize, kind: u32, v: &mut [u32; 40]) -> Took
-    requires { ⌜ known kind ≡ true ⌝ }
+pub fn take_fields(src: &[u8], at: usize, kind: MemberKind, v: &mut [u32; 40]) -> Took
     ensures { λ r. ⌜ tookOf r (now (v .exit)) ≡ taken (fieldsOf kind) (now (src .entry)) at 0 (now (v .entry)) ⌝ }
 {
     match kind {
-        1 => take_beam(src, at, v),
-        2 => take_column(src, at, v),
-        _ => take_run(src, at, v, 0, 11),
+        MemberKind::Beam => take_beam(src, at, v),
+        MemberKind::Column => take_column(src, at, v),
+        MemberKind::Mesh => take_run(src, at, v, 0, MESH_FIELDS),
     }
 }

@@ -1,9 +1,10 @@
 -- Demand 3 of a text in the buffer, and how the survey's answer picks the case.
-use Prim.Native.Nat.{ℕ, zero, suc, _<_}
+use Prim.Native.Nat.{ℕ, suc}
 use mathlib.Core.Path.{_≡_, refl, ap, _∙_}
-use mathlib.Core.List.{List, [], _∷_, _++_}
+use mathlib.Core.List.{List, _++_}
 use native.Mathlib.Omega.{arith}
 use lib.ListN.{length, getD}
+use Rattle.quantity.proofs.All.{all-at}
 use Rattle.text.specs.Text.{lineOf}
 use Rattle.line.specs.Line.{lineWords, headWords, lineText}
 use Rattle.line.proofs.Said.{head-said, member-said, said-alone}
@@ -14,14 +15,15 @@ use Rattle.outcome.specs.declared.Outcome.{Outcome}
 use Rattle.number.specs.Number.{numberAt}
 use Rattle.member.specs.Member.{Member}
 use Rattle.member.specs.Accepted.{AcceptedMember, AcceptedMembers}
+use Rattle.field.specs.Fields.{kindOf}
 use Rattle.built.specs.declared.Built.{Built}
-use Rattle.built.specs.declared.Verdict.the-variants.{Accepted}
-use Rattle.built.specs.declared.Verdict.the-variants as verdicts
+use Rattle.question.specs.declared.Verdict.the-variants.{Accepted}
+use Rattle.question.specs.declared.Verdict.the-variants as verdicts
 use Rattle.built.specs.Built.{memberOf}
 use Rattle.built.specs.Verdict.{builtVerdict}
 use Rattle.built.proofs.Accepted.{accepted-built}
-use Rattle.reading.specs.Reading.{Reading, got, refusal}
-use Rattle.reading.specs.Reading as reading
+use Rattle.question.specs.Reading.{Reading, got, refusal}
+use Rattle.question.specs.Reading as reading
 use Rattle.schedule.specs.Schedule.{schedule}
 use Rattle.schedule.specs.Schedule.{answerOf}
 use Rattle.schedule.specs.declared.Answer.the-variants as surveyed
@@ -40,16 +42,13 @@ use Rattle.lines.proofs.Lines.{members-lines, report-lines, mark-of}
 
 -- ---- A schedule.
 
-accepted-at : (ms : List Member) (i : ℕ) (m : Member) → AcceptedMembers ms → i < length ms → AcceptedMember (getD ms i m)
-accepted-at [] i m a h = absurd (omega arith)
-accepted-at (x ∷ xs) zero m a h = a .0
-accepted-at (x ∷ xs) (suc i) m a h = accepted-at xs i m (a .1) (omega arith)
-
 report-safe : (ms : List Member) → AcceptedMembers ms → SafeReport ms (reportText ms)
 report-safe ms a =
     record {
       total = head-said markOf outcomeOf ms;
-      lines = λ i m h. line-safe (getD ms i m) (lineOf (suc i) (reportText ms)) (accepted-at ms i m a h) (member-said markOf outcomeOf ms i m h);
+      lines = λ i m h.
+          line-safe (getD ms i m) (lineOf (suc i) (reportText ms)) (all-at AcceptedMember ms a i m (λ g. absurd (omega arith)))
+          (member-said markOf outcomeOf ms i m h);
     }
 
 pub reported : (s d d′ : List ℕ) (a : Answer) (ms : List Member) → schedule s ≡ got ms → Printed 0 (reportText ms) d d′ a → Reported s d d′ a
@@ -126,7 +125,7 @@ module _ (x : Built) where
 
   pub printed-member : {d d′ : List ℕ} {a : Answer} (o : Outcome) → o ≡ outcomeOf (memberOf x) →
       Printed 1 (lineText (lineWords (x .mark) o)) d d′ a → Printed 1 (memberText (memberOf x)) d d′ a
-  printed-member o e p = rw (mark-of (x .mark) (x .kind) (x .fields .v), ← e) p
+  printed-member o e p = rw (mark-of (x .mark) (kindOf (x .kind)) (x .fields .v), ← e) p
 
   pub member-refused : (d : List ℕ) (q : Question) → builtVerdict (x .mark) (x .kind) (x .fields .v) ≡ verdicts.Refused q →
       MemberReported x d d (Refused (refusal q 1))

@@ -7,7 +7,7 @@ use Rattle.text.specs.Text.{valueOf, wordOf, lineOf}
 use Rattle.member.specs.Member.{Member}
 use Rattle.built.specs.declared.Built.{Built}
 use Rattle.built.specs.Built.{memberOf}
-use Rattle.reading.specs.Reading.{got}
+use Rattle.question.specs.Reading.{got}
 use Rattle.schedule.specs.Schedule.{schedule}
 use Rattle.checks.specs.Claim.{SafeLine}
 use Rattle.printed.specs.declared.Answer.{Answer}
@@ -23,11 +23,11 @@ pub record SafeReport (ms : List Member) (text : List ℕ) : Type 0 where
 -- What `report` promises, for all bytes and every buffer: the answer, the whole buffer afterwards, and demand 3 of the text in it.
 pub record Reported (src before after : List ℕ) (answer : Answer) : Type 0 where
   pub answer-is : numbersOf answer ≡ answered 0 (reportOf src) (length before)
-  pub buffer-is : after ≡ bufferAfter (reportOf src) before
+  pub buffer-is : after ≡ bufferAfter 0 (reportOf src) before
   pub claim : (ms : List Member) → schedule src ≡ got ms → numbersOf answer .question ≡ 0 → SafeReport ms (take (numbersOf answer .length) after)
 
 -- What `member_report` promises of a built member.
 pub record MemberReported (x : Built) (before after : List ℕ) (answer : Answer) : Type 0 where
   pub answer-is : numbersOf answer ≡ answered 1 (memberReportOf x) (length before)
-  pub buffer-is : after ≡ bufferAfter (memberReportOf x) before
+  pub buffer-is : after ≡ bufferAfter 1 (memberReportOf x) before
   pub claim : numbersOf answer .question ≡ 0 → SafeLine (memberOf x) (lineOf 0 (take (numbersOf answer .length) after))

@@ -9,10 +9,10 @@ use Rattle.number.specs.declared.Number.the-variants as numbers
 use Rattle.member.specs.Member.{Member}
 use Rattle.built.specs.declared.Built.{Built}
 use Rattle.built.specs.Built.{memberOf}
-use Rattle.built.specs.declared.Verdict.{Verdict}
-use Rattle.built.specs.declared.Verdict.the-variants as verdicts
+use Rattle.question.specs.declared.Verdict.{Verdict}
+use Rattle.question.specs.declared.Verdict.the-variants as verdicts
 use Rattle.built.specs.Verdict.{builtVerdict}
-use Rattle.reading.specs.Reading.{Reading, got, no, refusal}
+use Rattle.question.specs.Reading.{Reading, got, no, refusal}
 use Rattle.schedule.specs.Schedule.{schedule}
 use Rattle.lines.specs.Lines.{reportText, memberText}
 

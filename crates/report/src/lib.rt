@@ -4,7 +4,6 @@ ghost use Rattle.number.specs.Number.{numberAt};
 ghost use Rattle.report.specs.Report.{placeAfter};
 ghost use Rattle.report.specs.Claim.{Reported, MemberReported};
 use built::Built;
-use built::Verdict;
 use built::built_verdict;
 use checks::check_member;
 use lines::print_report;
@@ -13,6 +12,7 @@ use number::number_at;
 use printed::Answer;
 use printed::print_line;
 use question::Refusal;
+use question::Verdict;
 use schedule::survey;
 
 // Where the members start: after their count.

@@ -10,7 +10,8 @@ use Rattle.number.specs.declared.Number.{Number}
 use Rattle.number.specs.declared.Number.the-variants.{Value, Refused}
 use Rattle.number.specs.Number.{numberAt, groupsAt}
 use Rattle.number.proofs.Groups.{Cases, groups-inv, refused-no-value, last-group-at, group-follows, only-group, from-second, from-third, weight}
-use Rattle.reading.specs.Reading.{Got, ofNumber}
+use Rattle.question.specs.Reading.{Got}
+use Rattle.reading.specs.Placed.{ofNumber}
 
 record WasValue (n : Number) : Type 0 where
   value : ℕ

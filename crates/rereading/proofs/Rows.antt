@@ -6,7 +6,8 @@ use native.Mathlib.Omega.{arith}
 use Rattle.number.specs.declared.Number.{Number}
 use Rattle.number.specs.declared.Number.the-variants.{Value, Refused}
 use Rattle.number.specs.Number.{numberAt}
-use Rattle.reading.specs.Reading.{Reading, got, no, Got, andThen, ofNumber}
+use Rattle.question.specs.Reading.{Reading, got, no, Got, andThen}
+use Rattle.reading.specs.Placed.{ofNumber}
 use Rattle.reading.specs.Taken.{storedBy, stored, run}
 
 pub same-got : {N A : Type 0} {o p : Reading N A} → o ≡ p → Got o → Got p

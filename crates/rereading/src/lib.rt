@@ -1,11 +1,23 @@
 // The numbers of a member that was accepted, taken once more: no question is put, since each was answered yes.
 ghost use mathlib.Core.Path.{_≡_};
-ghost use mathlib.Core.Bool.{true};
 ghost use Prim.Native.Nat.{_+_, _-_, _<_, _≤_, _^_};
 ghost use Rattle.number.specs.Number.{numberAt, groupsAt};
-ghost use Rattle.field.specs.Fields.{groups, beamFields, columnFields, fieldsOf, known};
-ghost use Rattle.reading.specs.Reading.{Got, got, placed, ofNumber};
+ghost use Rattle.field.specs.Fields.{groups, beamFields, columnFields, fieldsOf};
+ghost use Rattle.question.specs.Reading.{Got, got};
+ghost use Rattle.reading.specs.Placed.{placed, ofNumber};
 ghost use Rattle.reading.specs.Taken.{run, taken};
+use field::BEAM_FIELDS;
+use field::BEAM_LINKS;
+use field::COLUMN_COUNT;
+use field::COLUMN_FIELDS;
+use field::COLUMN_GROUPS;
+use field::COLUMN_LINKS;
+use field::COMPRESSION_COUNT;
+use field::COMPRESSION_GROUPS;
+use field::MESH_FIELDS;
+use field::MemberKind;
+use field::TENSION_COUNT;
+use field::TENSION_GROUPS;
 use number::Number;
 use number::wide;
 use reading::at_most_four;
@@ -90,11 +102,11 @@ fn reread_beam(src: &[u8], at: usize, v: &mut [u32; 40]) -> usize
     requires { ⌜ Got (taken beamFields (now src) at 0 (now v)) ⌝ }
     ensures { λ r. ⌜ taken beamFields (now (src .entry)) at 0 (now (v .entry)) ≡ got (placed (now (v .exit)) r) ⌝ }
 {
-    let tension = reread_row(src, at, v, 0, 9);
-    let count = reread_list(src, tension, v, 8);
-    let compression = reread_row(src, count, v, 17, 18);
-    let links = reread_list(src, compression, v, 17);
-    reread_row(src, links, v, 26, 37)
+    let tension = reread_row(src, at, v, 0, TENSION_GROUPS);
+    let count = reread_list(src, tension, v, TENSION_COUNT);
+    let compression = reread_row(src, count, v, COMPRESSION_COUNT, COMPRESSION_GROUPS);
+    let links = reread_list(src, compression, v, COMPRESSION_COUNT);
+    reread_row(src, links, v, BEAM_LINKS, BEAM_FIELDS)
 }
 
 // The fields of a column.
@@ -102,19 +114,19 @@ fn reread_column(src: &[u8], at: usize, v: &mut [u32; 40]) -> usize
     requires { ⌜ Got (taken columnFields (now src) at 0 (now v)) ⌝ }
     ensures { λ r. ⌜ taken columnFields (now (src .entry)) at 0 (now (v .entry)) ≡ got (placed (now (v .exit)) r) ⌝ }
 {
-    let groups = reread_row(src, at, v, 0, 5);
-    let links = reread_list(src, groups, v, 4);
-    reread_row(src, links, v, 13, 17)
+    let groups = reread_row(src, at, v, 0, COLUMN_GROUPS);
+    let links = reread_list(src, groups, v, COLUMN_COUNT);
+    reread_row(src, links, v, COLUMN_LINKS, COLUMN_FIELDS)
 }
 
 // The fields of a kind from `at` on, into v: the place after them.
-pub fn reread_fields(src: &[u8], at: usize, kind: u32, v: &mut [u32; 40]) -> usize
-    requires { ⌜ (known kind ≡ true) × (Got (taken (fieldsOf kind) (now src) at 0 (now v))) ⌝ }
+pub fn reread_fields(src: &[u8], at: usize, kind: MemberKind, v: &mut [u32; 40]) -> usize
+    requires { ⌜ Got (taken (fieldsOf kind) (now src) at 0 (now v)) ⌝ }
     ensures { λ r. ⌜ taken (fieldsOf kind) (now (src .entry)) at 0 (now (v .entry)) ≡ got (placed (now (v .exit)) r) ⌝ }
 {
     match kind {
-        1 => reread_beam(src, at, v),
-        2 => reread_column(src, at, v),
-        _ => reread_row(src, at, v, 0, 11),
+        MemberKind::Beam => reread_beam(src, at, v),
+        MemberKind::Column => reread_column(src, at, v),
+        MemberKind::Mesh => reread_row(src, at, v, 0, MESH_FIELDS),
     }
 }

@@ -13,7 +13,8 @@ use Rattle.number.specs.declared.Number.the-variants.{Value}
 use Rattle.number.specs.Number.{numberAt}
 use Rattle.member.specs.Member.{Member}
 use Rattle.member.specs.Accepted.{AcceptedMembers}
-use Rattle.reading.specs.Reading.{Reading, got, placed, ask, refusal, named, no}
+use Rattle.question.specs.Reading.{Reading, got, ask, refusal, named, no}
+use Rattle.reading.specs.Placed.{placed}
 use Rattle.reading.specs.Fields.{checked}
 use Rattle.reading.proofs.Checked.{passes}
 use Rattle.members.specs.Members.{members}

@@ -13,7 +13,8 @@ use Rattle.number.specs.declared.Number.the-variants.{Value, Refused}
 use Rattle.number.specs.Number.{numberAt}
 use Rattle.member.specs.Member.{Member}
 use Rattle.schedule.specs.declared.Answer.the-variants as answers
-use Rattle.reading.specs.Reading.{Reading, got, no, Placed, andThen, ask, refusal}
+use Rattle.question.specs.Reading.{Reading, got, no, andThen, ask, refusal}
+use Rattle.reading.specs.Placed.{Placed}
 use Rattle.members.specs.Members.{members}
 use Rattle.schedule.specs.Schedule.{schedule, answerOf}
 use Rattle.members.specs.Result.{placeAfter}

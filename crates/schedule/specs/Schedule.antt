@@ -7,7 +7,7 @@ use lib.ListN.{length}
 use Rattle.question.specs.declared.Question.the-variants.{Size, Count, Trailing}
 use Rattle.question.specs.declared.Refusal.{Refusal}
 use Rattle.member.specs.Member.{Member}
-use Rattle.reading.specs.Reading.{Reading, got, no, andThen, ask, refusal, named}
+use Rattle.question.specs.Reading.{Reading, got, no, andThen, ask, refusal, named}
 use Rattle.reading.specs.Fields.{checked}
 use Rattle.members.specs.Members.{members}
 use Rattle.schedule.specs.declared.Answer.{Answer}

@@ -1,6 +1,6 @@
 // Every byte string is accepted as a schedule, or gets the first question answered no, with its member.
 ghost use mathlib.Core.Path.{_≡_};
-ghost use Rattle.reading.specs.Reading.{refusal};
+ghost use Rattle.question.specs.Reading.{refusal};
 ghost use Rattle.schedule.specs.Schedule.{schedule, answerOf};
 use members::Ends;
 use members::read_members;

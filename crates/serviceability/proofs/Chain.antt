@@ -3,9 +3,8 @@ use Prim.Native.Nat.{ℕ, _≤_, _<_}
 use mathlib.Core.Path.{_≡_}
 use borrow.Author.Tests.{le-leb, lt-leb}
 use Rattle.outcome.specs.declared.Check.the-variants.{CrackWidth}
-use Rattle.outcome.specs.declared.Figure.the-variants.{Reached, Unreached}
 use Rattle.outcome.specs.declared.Outcome.{Outcome}
-use Rattle.outcome.specs.Outcome.{outcome}
+use Rattle.outcome.specs.Outcome.{threeFigures}
 use Rattle.section.specs.declared.Section.{Section}
 use Rattle.cracking.specs.Steps.{crackWidth, widthLimit}
 use Rattle.serviceability.specs.Checks.{fromDeflection, fromWidth}
@@ -15,6 +14,6 @@ module _ (x : Section) (m v w l : ℕ) (o : Outcome) (p : w ≡ crackWidth x) (q
   unfolding fromWidth
   width-holds h e = rw (← p, ← q, le-leb w l h) e
 
-  pub width-fails : l < w → o ≡ outcome CrackWidth (Reached m) (Reached v) (Reached w) Unreached → o ≡ fromWidth x m v
+  pub width-fails : l < w → o ≡ threeFigures CrackWidth m v w → o ≡ fromWidth x m v
   unfolding fromWidth
   width-fails h e = rw (← p, ← q, lt-leb w l h) e

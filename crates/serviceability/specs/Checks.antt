@@ -4,9 +4,8 @@ use Prim.Native.Nat.{ℕ}
 use lib.Dec.{leb}
 use Rattle.quantity.specs.Choice.{if_then_else_}
 use Rattle.outcome.specs.declared.Check.the-variants.{Passed, ServiceStress, CrackWidth, Deflection}
-use Rattle.outcome.specs.declared.Figure.the-variants.{Reached, Unreached}
 use Rattle.outcome.specs.declared.Outcome.{Outcome}
-use Rattle.outcome.specs.Outcome.{outcome}
+use Rattle.outcome.specs.Outcome.{twoFigures, threeFigures, fourFigures}
 use Rattle.section.specs.declared.Section.{Section}
 use Rattle.cracking.specs.Steps.{stressHolds, crackWidth, widthLimit}
 use Rattle.deflection.specs.Steps.{deflection, deflectionHolds}
@@ -15,16 +14,16 @@ use Rattle.deflection.specs.Steps.{deflection, deflectionHolds}
 
 unfoldable pub fromDeflection : Section → ℕ → ℕ → ℕ → Outcome
 fromDeflection x moment shear width =
-    outcome (if deflectionHolds x then Passed else Deflection) (Reached moment) (Reached shear) (Reached width) (Reached (deflection x))
+    fourFigures (if deflectionHolds x then Passed else Deflection) moment shear width (deflection x)
 
 unfoldable pub fromWidth : Section → ℕ → ℕ → Outcome
 fromWidth x moment shear =
     if leb (crackWidth x) (widthLimit x)
     then fromDeflection x moment shear (crackWidth x)
-    else outcome CrackWidth (Reached moment) (Reached shear) (Reached (crackWidth x)) Unreached
+    else threeFigures CrackWidth moment shear (crackWidth x)
 
 unfoldable pub fromStress : Section → ℕ → ℕ → Outcome
 fromStress x moment shear =
     if stressHolds x
     then fromWidth x moment shear
-    else outcome ServiceStress (Reached moment) (Reached shear) Unreached Unreached
+    else twoFigures ServiceStress moment shear

@@ -4,9 +4,9 @@ ghost use mathlib.Core.Bool.{true};
 ghost use Prim.Native.Nat.{_*_, _≤_};
 ghost use Rattle.section.specs.Section.{G, S};
 ghost use Rattle.section.specs.Bounded.{Bounded};
+ghost use Rattle.cracking.specs.Bounds.{stressMost};
 ghost use Rattle.cracking.specs.Steps.{stressHolds, σ, q};
 ghost use Rattle.quantity.specs.Choice.{if_then_else_};
-ghost use Rattle.outcome.specs.Outcome.{outcome};
 ghost use Rattle.serviceability.specs.Checks.{fromDeflection, fromWidth, fromStress};
 use cracking::crack_width;
 use cracking::mean_stress;
@@ -16,22 +16,11 @@ use cracking::width_limit;
 use deflection::deflection_figure;
 use deflection::deflection_holds;
 use outcome::Check;
-use outcome::Figure;
 use outcome::Outcome;
+use outcome::four_figures;
+use outcome::three_figures;
+use outcome::two_figures;
 use section::Section;
-
-// An outcome after the shear check, without later figures.
-pub fn after_shear(check: Check, moment: u64, shear: u64) -> Outcome
-    ensures { λ r. ⌜ r ≡ outcome check (Figure.Reached moment) (Figure.Reached shear) Figure.Unreached Figure.Unreached ⌝ }
-{
-    Outcome {
-        check: check,
-        first: Figure::Reached(moment),
-        second: Figure::Reached(shear),
-        third: Figure::Unreached,
-        fourth: Figure::Unreached,
-    }
-}
 
 // OK, or the last check.
 fn last_check(holds: bool) -> Check
@@ -53,17 +42,17 @@ fn from_deflection(
     stress: u64,
     mean: u64,
 ) -> Outcome
-    requires { ⌜ (Bounded x) × (stress ≡ σ x) × (stress ≤ 6000000) × (mean ≡ q x) × (mean ≤ 6000000) ⌝ }
+    requires { ⌜ (Bounded x) × (stress ≡ σ x) × (stress ≤ stressMost) × (mean ≡ q x) × (mean ≤ stressMost) ⌝ }
     ensures { λ r. ⌜ r ≡ fromDeflection x moment shear width ⌝ }
 {
     let figure = deflection_figure(x, stress, mean);
-    Outcome {
-        check: last_check(deflection_holds(x, figure)),
-        first: Figure::Reached(moment),
-        second: Figure::Reached(shear),
-        third: Figure::Reached(width),
-        fourth: Figure::Reached(figure),
-    }
+    four_figures(
+        last_check(deflection_holds(x, figure)),
+        moment,
+        shear,
+        width,
+        figure,
+    )
 }
 
 // 4.4.2.
@@ -77,13 +66,7 @@ fn from_width(x: Section, moment: u64, shear: u64) -> Outcome
     if width <= width_limit(x) {
         from_deflection(x, moment, shear, width, stress, mean)
     } else {
-        Outcome {
-            check: Check::CrackWidth,
-            first: Figure::Reached(moment),
-            second: Figure::Reached(shear),
-            third: Figure::Reached(width),
-            fourth: Figure::Unreached,
-        }
+        three_figures(Check::CrackWidth, moment, shear, width)
     }
 }
 
@@ -95,6 +78,6 @@ pub fn from_stress(x: Section, moment: u64, shear: u64) -> Outcome
     if stress_holds(x) {
         from_width(x, moment, shear)
     } else {
-        after_shear(Check::ServiceStress, moment, shear)
+        two_figures(Check::ServiceStress, moment, shear)
     }
 }

@@ -1,11 +1,14 @@
 // A member in slots, and question 7 of it.
 ghost use mathlib.Core.Path.{_≡_};
-ghost use mathlib.Core.Bool.{true};
 ghost use Prim.Native.Nat.{_+_, _<_};
 ghost use lib.ListN.{take, drop};
-ghost use Rattle.field.specs.Fields.{groups, beamFields, columnFields, meshFields, fieldsOf, known};
+ghost use Rattle.field.specs.Fields.{groups, beamFields, columnFields, meshFields, fieldsOf};
 ghost use Rattle.slots.specs.Slots.{fieldsHold};
 use domain::slot_holds;
+use field::COLUMN_COUNT;
+use field::COMPRESSION_COUNT;
+use field::MemberKind;
+use field::TENSION_COUNT;
 use field::beam_field;
 use field::column_field;
 use field::group_field;
@@ -17,199 +20,125 @@ pub struct Slots {
     pub v: [u32; 40],
 }
 
-// Question 7 of a list of groups whose count stands in slot k.
+// Question 7 of the four groups of a list whose count stands in slot k: diameter and bars of each.
 fn list_holds(k: u32, v: &[u32; 40]) -> bool
     requires { ⌜ k < 30 ⌝ }
     ensures { λ r. ⌜ r ≡ fieldsHold (groups k) (k + 1) (now (v .entry)) ⌝ }
 {
     let i = k as usize + 1;
-    both(
-        slot_holds(group_field(k, 0), i, v),
-        both(
-            slot_holds(group_field(k, 1), i + 1, v),
-            both(
-                slot_holds(group_field(k, 2), i + 2, v),
-                both(
-                    slot_holds(group_field(k, 3), i + 3, v),
-                    both(
-                        slot_holds(group_field(k, 4), i + 4, v),
-                        both(
-                            slot_holds(group_field(k, 5), i + 5, v),
-                            both(
-                                slot_holds(group_field(k, 6), i + 6, v),
-                                slot_holds(group_field(k, 7), i + 7, v),
-                            ),
-                        ),
-                    ),
-                ),
-            ),
-        ),
-    )
+    let d1 = slot_holds(group_field(k, 0), i, v);
+    let n1 = slot_holds(group_field(k, 1), i + 1, v);
+    let d2 = slot_holds(group_field(k, 2), i + 2, v);
+    let n2 = slot_holds(group_field(k, 3), i + 3, v);
+    let d3 = slot_holds(group_field(k, 4), i + 4, v);
+    let n3 = slot_holds(group_field(k, 5), i + 5, v);
+    let d4 = slot_holds(group_field(k, 6), i + 6, v);
+    let n4 = slot_holds(group_field(k, 7), i + 7, v);
+    let first = both(both(d1, n1), both(d2, n2));
+    let last = both(both(d3, n3), both(d4, n4));
+    both(first, last)
 }
 
-// Question 7 of a beam's section, materials and the number of its tension groups.
+// Of a beam's section, its materials and the number of its tension groups.
 fn beam_section_holds(v: &[u32; 40]) -> bool
     ensures { λ r. ⌜ r ≡ fieldsHold (take 9 beamFields) 0 (now (v .entry)) ⌝ }
 {
-    both(
-        slot_holds(beam_field(0), 0, v),
-        both(
-            slot_holds(beam_field(1), 1, v),
-            both(
-                slot_holds(beam_field(2), 2, v),
-                both(
-                    slot_holds(beam_field(3), 3, v),
-                    both(
-                        slot_holds(beam_field(4), 4, v),
-                        both(
-                            slot_holds(beam_field(5), 5, v),
-                            both(
-                                slot_holds(beam_field(6), 6, v),
-                                both(
-                                    slot_holds(beam_field(7), 7, v),
-                                    slot_holds(beam_field(8), 8, v),
-                                ),
-                            ),
-                        ),
-                    ),
-                ),
-            ),
-        ),
-    )
+    let ok = slot_holds(beam_field(0), 0, v);
+    let ok = both(ok, slot_holds(beam_field(1), 1, v));
+    let ok = both(ok, slot_holds(beam_field(2), 2, v));
+    let ok = both(ok, slot_holds(beam_field(3), 3, v));
+    let ok = both(ok, slot_holds(beam_field(4), 4, v));
+    let ok = both(ok, slot_holds(beam_field(5), 5, v));
+    let ok = both(ok, slot_holds(beam_field(6), 6, v));
+    let ok = both(ok, slot_holds(beam_field(7), 7, v));
+    both(ok, slot_holds(beam_field(8), 8, v))
 }
 
-// Question 7 of a beam's links, cover, span, loads and environment.
+// Of a beam's links, cover, span, loads and environment.
 fn beam_loads_hold(v: &[u32; 40]) -> bool
     ensures { λ r. ⌜ r ≡ fieldsHold (drop 26 beamFields) 26 (now (v .entry)) ⌝ }
 {
-    both(
-        slot_holds(beam_field(26), 26, v),
-        both(
-            slot_holds(beam_field(27), 27, v),
-            both(
-                slot_holds(beam_field(28), 28, v),
-                both(
-                    slot_holds(beam_field(29), 29, v),
-                    both(
-                        slot_holds(beam_field(30), 30, v),
-                        both(
-                            slot_holds(beam_field(31), 31, v),
-                            both(
-                                slot_holds(beam_field(32), 32, v),
-                                both(
-                                    slot_holds(beam_field(33), 33, v),
-                                    both(
-                                        slot_holds(beam_field(34), 34, v),
-                                        both(
-                                            slot_holds(beam_field(35), 35, v),
-                                            slot_holds(beam_field(36), 36, v),
-                                        ),
-                                    ),
-                                ),
-                            ),
-                        ),
-                    ),
-                ),
-            ),
-        ),
-    )
+    let ok = slot_holds(beam_field(26), 26, v);
+    let ok = both(ok, slot_holds(beam_field(27), 27, v));
+    let ok = both(ok, slot_holds(beam_field(28), 28, v));
+    let ok = both(ok, slot_holds(beam_field(29), 29, v));
+    let ok = both(ok, slot_holds(beam_field(30), 30, v));
+    let ok = both(ok, slot_holds(beam_field(31), 31, v));
+    let ok = both(ok, slot_holds(beam_field(32), 32, v));
+    let ok = both(ok, slot_holds(beam_field(33), 33, v));
+    let ok = both(ok, slot_holds(beam_field(34), 34, v));
+    let ok = both(ok, slot_holds(beam_field(35), 35, v));
+    both(ok, slot_holds(beam_field(36), 36, v))
 }
 
 // Question 7 of a beam.
 fn beam_holds(v: &[u32; 40]) -> bool
     ensures { λ r. ⌜ r ≡ fieldsHold beamFields 0 (now (v .entry)) ⌝ }
 {
-    both(
-        beam_section_holds(v),
-        both(
-            list_holds(8, v),
-            both(
-                slot_holds(beam_field(17), 17, v),
-                both(list_holds(17, v), beam_loads_hold(v)),
-            ),
-        ),
-    )
+    let ok = beam_section_holds(v);
+    let ok = both(ok, list_holds(TENSION_COUNT as u32, v));
+    let ok = both(
+        ok,
+        slot_holds(beam_field(COMPRESSION_COUNT), COMPRESSION_COUNT, v),
+    );
+    let ok = both(ok, list_holds(COMPRESSION_COUNT as u32, v));
+    both(ok, beam_loads_hold(v))
+}
+
+// Of a column's section, materials and the number of its groups.
+fn column_section_holds(v: &[u32; 40]) -> bool
+    ensures { λ r. ⌜ r ≡ fieldsHold (take 5 columnFields) 0 (now (v .entry)) ⌝ }
+{
+    let ok = slot_holds(column_field(0), 0, v);
+    let ok = both(ok, slot_holds(column_field(1), 1, v));
+    let ok = both(ok, slot_holds(column_field(2), 2, v));
+    let ok = both(ok, slot_holds(column_field(3), 3, v));
+    both(ok, slot_holds(column_field(4), 4, v))
+}
+
+// Of a column's links, length and load.
+fn column_loads_hold(v: &[u32; 40]) -> bool
+    ensures { λ r. ⌜ r ≡ fieldsHold (drop 13 columnFields) 13 (now (v .entry)) ⌝ }
+{
+    let ok = slot_holds(column_field(13), 13, v);
+    let ok = both(ok, slot_holds(column_field(14), 14, v));
+    let ok = both(ok, slot_holds(column_field(15), 15, v));
+    both(ok, slot_holds(column_field(16), 16, v))
 }
 
 // Question 7 of a column.
 fn column_holds(v: &[u32; 40]) -> bool
     ensures { λ r. ⌜ r ≡ fieldsHold columnFields 0 (now (v .entry)) ⌝ }
 {
-    both(
-        slot_holds(column_field(0), 0, v),
-        both(
-            slot_holds(column_field(1), 1, v),
-            both(
-                slot_holds(column_field(2), 2, v),
-                both(
-                    slot_holds(column_field(3), 3, v),
-                    both(
-                        slot_holds(column_field(4), 4, v),
-                        both(
-                            list_holds(4, v),
-                            both(
-                                slot_holds(column_field(13), 13, v),
-                                both(
-                                    slot_holds(column_field(14), 14, v),
-                                    both(
-                                        slot_holds(column_field(15), 15, v),
-                                        slot_holds(column_field(16), 16, v),
-                                    ),
-                                ),
-                            ),
-                        ),
-                    ),
-                ),
-            ),
-        ),
-    )
+    let ok = column_section_holds(v);
+    let ok = both(ok, list_holds(COLUMN_COUNT as u32, v));
+    both(ok, column_loads_hold(v))
 }
 
 // Question 7 of a mesh.
 fn mesh_holds(v: &[u32; 40]) -> bool
     ensures { λ r. ⌜ r ≡ fieldsHold meshFields 0 (now (v .entry)) ⌝ }
 {
-    both(
-        slot_holds(mesh_field(0), 0, v),
-        both(
-            slot_holds(mesh_field(1), 1, v),
-            both(
-                slot_holds(mesh_field(2), 2, v),
-                both(
-                    slot_holds(mesh_field(3), 3, v),
-                    both(
-                        slot_holds(mesh_field(4), 4, v),
-                        both(
-                            slot_holds(mesh_field(5), 5, v),
-                            both(
-                                slot_holds(mesh_field(6), 6, v),
-                                both(
-                                    slot_holds(mesh_field(7), 7, v),
-                                    both(
-                                        slot_holds(mesh_field(8), 8, v),
-                                        both(
-                                            slot_holds(mesh_field(9), 9, v),
-                                            slot_holds(mesh_field(10), 10, v),
-                                        ),
-                                    ),
-                                ),
-                            ),
-                        ),
-                    ),
-                ),
-            ),
-        ),
-    )
+    let ok = slot_holds(mesh_field(0), 0, v);
+    let ok = both(ok, slot_holds(mesh_field(1), 1, v));
+    let ok = both(ok, slot_holds(mesh_field(2), 2, v));
+    let ok = both(ok, slot_holds(mesh_field(3), 3, v));
+    let ok = both(ok, slot_holds(mesh_field(4), 4, v));
+    let ok = both(ok, slot_holds(mesh_field(5), 5, v));
+    let ok = both(ok, slot_holds(mesh_field(6), 6, v));
+    let ok = both(ok, slot_holds(mesh_field(7), 7, v));
+    let ok = both(ok, slot_holds(mesh_field(8), 8, v));
+    let ok = both(ok, slot_holds(mesh_field(9), 9, v));
+    both(ok, slot_holds(mesh_field(10), 10, v))
 }
 
 // Question 7 of a member.
-pub fn fields_hold(kind: u32, v: &[u32; 40]) -> bool
-    requires { ⌜ known kind ≡ true ⌝ }
+pub fn fields_hold(kind: MemberKind, v: &[u32; 40]) -> bool
     ensures { λ r. ⌜ r ≡ fieldsHold (fieldsOf kind) 0 (now (v .entry)) ⌝ }
 {
     match kind {
-        1 => beam_holds(v),
-        2 => column_holds(v),
-        _ => mesh_holds(v),
+        MemberKind::Beam => beam_holds(v),
+        MemberKind::Column => column_holds(v),
+        MemberKind::Mesh => mesh_holds(v),
     }
 }

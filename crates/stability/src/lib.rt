@@ -17,7 +17,7 @@ fn interval_of(span: u64, b: u64) -> u32
 // φ between the points of interval i, where 200·b stands for 1.
 fn between_points(i: u32, span: u64, b: u64) -> u64
     requires { ⌜ (0 < b) × (b ≤ 1500) × (8 * b ≤ span) × (span ≤ 50 * b) × (i ≡ interval span b) ⌝ }
-    ensures { λ r. ⌜ (r ≡ between i span b) × (r ≤ 200 * b) ⌝ }
+    ensures { λ r. ⌜ r ≡ between i span b ⌝ }
 {
     let p = point_at(i) as u64;
     let q = point_at(i + 1) as u64;
@@ -28,7 +28,7 @@ fn between_points(i: u32, span: u64, b: u64) -> u64
 // φ, where 200·b stands for 1.
 pub fn stability_of(span: u64, b: u64) -> u64
     requires { ⌜ (0 < b) × (b ≤ 1500) × (span ≤ 50 * b) ⌝ }
-    ensures { λ r. ⌜ (r ≡ stability span b) × (r ≤ 200 * b) ⌝ }
+    ensures { λ r. ⌜ r ≡ stability span b ⌝ }
 {
     if span <= 8 * b {
         200 * b

@@ -60,7 +60,7 @@ key-unlisted k [] h = refl
 key-unlisted k (r ∷ []) h = simp (ne-eqb _ _ h)
 key-unlisted k (r ∷ s ∷ rs) h = simp (ne-eqb k (getD r 0 0) (λ e. h (inl e))) (key-unlisted k (s ∷ rs) (λ o. h (inr o)))
 
--- the row of a listed key has that key; of any other there is none
+-- the row of a listed key has that key
 pub listed-key : (k : ℕ) (rows : List (List ℕ)) → listed k rows ≡ true → cell k 0 rows ≡ k
 listed-key k [] e = absurd (let z : _≡_ {A = ℕ} 0 1 = cc in omega arith)
 listed-key k (r ∷ rs) e = go (listed-key k rs) (eqb k (getD r 0 0)) refl e
@@ -68,17 +68,6 @@ listed-key k (r ∷ rs) e = go (listed-key k rs) (eqb k (getD r 0 0)) refl e
     go : (listed k rs ≡ true → cell k 0 rs ≡ k) → (t : Bool) → eqb k (getD r 0 0) ≡ t → (t || listed k rs) ≡ true → getD (if t then r else row k rs) 0 0 ≡ k
     go h true q e = sym (eqb→eq k (getD r 0 0) (rw q tt))
     go h false q e = h e
-
-unlisted-row : (k : ℕ) (rows : List (List ℕ)) → listed k rows ≡ false → row k rows ≡ []
-unlisted-row k [] e = refl
-unlisted-row k (r ∷ rs) e = go (unlisted-row k rs) (eqb k (getD r 0 0)) e
-  where
-    go : (listed k rs ≡ false → row k rs ≡ []) → (t : Bool) → (t || listed k rs) ≡ false → (if t then r else row k rs) ≡ []
-    go h true e = absurd (let z : _≡_ {A = ℕ} 0 1 = cc in omega arith)
-    go h false e = h e
-
-pub unlisted-cell : (k j : ℕ) (rows : List (List ℕ)) → listed k rows ≡ false → cell k j rows ≡ 0
-unlisted-cell k j rows e = ap (λ (r : List ℕ). getD r j 0) (unlisted-row k rows e)
 
 -- a rule that every row of a table passes holds of the row of a listed key
 pub listed-rule : (f : List ℕ → Bool) (k : ℕ) (rows : List (List ℕ)) (i : ℕ) → T (every (λ (i : ℕ) (r : List ℕ). f r) i rows) →
@@ -133,6 +122,21 @@ unlisted-place k (r ∷ rs) e = go (unlisted-place k rs) (eqb k (getD r 0 0)) e
     go h true e = absurd (let z : _≡_ {A = ℕ} 0 1 = cc in omega arith)
     go h false e = ap suc (h e)
 
+-- past the last row every column is 0, as for a key that is not listed
+pub past-rows : (rows : List (List ℕ)) (j : ℕ) {i : ℕ} → length rows ≤ i → getD (getD rows i []) j 0 ≡ 0
+past-rows rows j h = ap (λ (r : List ℕ). getD r j 0) (List·getD-eq-default rows [] h)
+
+pub unlisted-cell : (k j : ℕ) (rows : List (List ℕ)) → listed k rows ≡ false → cell k j rows ≡ 0
+unlisted-cell k j rows e = rw (← row-at-place k rows) (past-rows rows j (omega (arith, unlisted-place k rows e)))
+
+-- what holds of the cell of a listed key and of 0 holds of any cell
+pub cell-case : (P : ℕ → Type 0) (k j : ℕ) (rows : List (List ℕ)) → (listed k rows ≡ true → P (cell k j rows)) → P 0 → P (cell k j rows)
+cell-case P k j rows f z = go (listed k rows) refl
+  where
+    go : (t : Bool) → listed k rows ≡ t → P (cell k j rows)
+    go true e = f e
+    go false e = rw (unlisted-cell k j rows e) z
+
 -- ---- A list whose places have an arm each.
 
 -- i is none of the first n places
@@ -143,10 +147,6 @@ NoneOf (suc n) i = NoneOf n i × (i ≡ n → ⊥)
 pub none-of : (n i : ℕ) → NoneOf n i → n ≤ i
 none-of zero i h = omega arith
 none-of (suc n) i h = omega (arith, none-of n i (h .0), h .1)
-
--- past the last row every column is 0
-pub past-rows : (rows : List (List ℕ)) (j : ℕ) {i : ℕ} → length rows ≤ i → getD (getD rows i []) j 0 ≡ 0
-past-rows rows j h = ap (λ (r : List ℕ). getD r j 0) (List·getD-eq-default rows [] h)
 
 -- ---- A table whose keys have an arm each.
 

@@ -8,8 +8,10 @@ use native.Mathlib.Omega.{arith}
 use lib.ListN.{length, length-append}
 use lib.Dec.{ltb}
 use borrow.Author.Tests.{ltb-true, ltb-false, le-leb}
+use Rattle.quantity.specs.All.{All}
+use Rattle.quantity.proofs.All.{all-append, all-weaken}
 use Rattle.text.specs.Text.{digits, decimal, valueFrom, valueOf, isDigit, isDecimal}
-use Rattle.text.proofs.All.{All, all-none, all-and, all-append, all-weaken, all-every, Graphic}
+use Rattle.text.proofs.Bytes.{all-every, Graphic}
 
 pub lt-or-le : {P : Type 0} (n m : ℕ) → (n < m → P) → (m ≤ n → P) → P
 lt-or-le {P} n m f g = go (ltb n m) refl
@@ -85,18 +87,18 @@ Digit b = (48 ≤ b) × (b ≤ 57)
 
 pub decimal-digits : (v : ℕ) → All Digit (decimal v)
 decimal-digits = decimal-induction (λ v. All Digit (decimal v))
-    (λ v h. rw (decimal-one v h) (all-and {b = 48 + v} (omega arith) all-none))
-    (λ v h ih. rw (decimal-more v h) (all-append ih (all-and {b = 48 + v % 10} (omega arith) all-none)))
+    (λ v h. rw (decimal-one v h) (omega arith, tt))
+    (λ v h ih. rw (decimal-more v h) (all-append Digit (decimal (v / 10)) _ ih (omega arith, tt)))
 
 pub decimal-graphic : (v : ℕ) → All Graphic (decimal v)
-decimal-graphic v = all-weaken (λ b p. omega arith) (decimal-digits v)
+decimal-graphic v = all-weaken Digit Graphic (λ b p. omega arith) (decimal v) (decimal-digits v)
 
 -- ---- Read back
 
 digits-are-decimal : (s : List ℕ) → 1 ≤ length s → All Digit s → isDecimal s ≡ true
 unfolding isDecimal
 digits-are-decimal [] h a = absurd (omega arith)
-digits-are-decimal (b ∷ s) h a = all-every isDigit (λ x p. rw (le-leb 48 x (p .0), le-leb x 57 (p .1))) a
+digits-are-decimal (b ∷ s) h a = all-every isDigit (λ x p. rw (le-leb 48 x (p .0), le-leb x 57 (p .1))) (b ∷ s) a
 
 pub decimal-is : (v : ℕ) → isDecimal (decimal v) ≡ true
 decimal-is v = digits-are-decimal (decimal v) (decimal-not-empty v) (decimal-digits v)

@@ -1,4 +1,4 @@
-pub mod All
+pub mod Bytes
 pub mod Put
 pub mod Decimal
 pub mod Split

@@ -2,8 +2,6 @@
 use Prim.Native.Nat.{_^_}
 use mathlib.Core.Path.{refl}
 use native.Mathlib.Omega.{arith}
-use lib.Dec.{leb}
-use Rattle.quantity.proofs.Choice.{if-case}
 use Rattle.material.specs.declared.Concrete.{Concrete}
 use Rattle.material.specs.declared.Steel.{Steel}
 use Rattle.outcome.specs.declared.Figure.{Figure}
@@ -11,19 +9,23 @@ use Rattle.outcome.specs.declared.Figure.the-variants.{Reached, Unreached}
 use Rattle.outcome.specs.declared.Outcome.{Outcome}
 use Rattle.line.proofs.Length.{Below}
 use Rattle.member.specs.Member.{Beam, Column, Mesh}
+use Rattle.member.specs.Accepted.{AcceptedBeam}
 use Rattle.section.specs.declared.Section.{Section}
-use Rattle.section.specs.Section.{sectionOf, M, Vd}
-use Rattle.bending.specs.Steps.{leastSteel, compressionDepth, bendingCapacity}
-use Rattle.shear.specs.Steps.{shearCapacity, linkSpacing, leastLinks}
-use Rattle.cracking.specs.Steps.{stressHolds, crackWidth, widthLimit}
+use Rattle.section.specs.Section.{sectionOf}
+use Rattle.bending.specs.Steps.{bendingCapacity}
+use Rattle.shear.specs.Steps.{shearCapacity}
+use Rattle.cracking.specs.Steps.{crackWidth}
 use Rattle.deflection.specs.Steps.{deflection}
-use Rattle.serviceability.specs.Checks.{fromDeflection, fromWidth, fromStress}
-use Rattle.beam.specs.Checks.{fromLeastLinks, fromSpacing, fromShear, fromBending, fromDepth, sectionOutcome, beamOutcome}
-use Rattle.axial.specs.Steps.{steelFits, slendernessFits, axialCapacity}
-use Rattle.column.specs.Checks.{linksFit, axialOutcome, slendernessOutcome, linksOutcome, columnOutcome}
+use Rattle.beam.specs.Checks.{beamOutcome}
+use Rattle.beam.proofs.Ways as beams
+use Rattle.axial.specs.Given.{Given}
+use Rattle.axial.specs.Steps.{axialCapacity}
+use Rattle.column.specs.Checks.{columnOutcome}
+use Rattle.column.proofs.Ways as columns
 use Rattle.anchorage.specs.Steps.{anchorageLength}
 use Rattle.lap.specs.Steps.{lapLength}
-use Rattle.mesh.specs.Checks.{lapOutcome, meshOutcome}
+use Rattle.mesh.specs.Checks.{meshOutcome}
+use Rattle.mesh.proofs.Ways as meshes
 use Rattle.checks.proofs.Figures.{Short}
 use Rattle.ratio.specs.Ratio.{ExactFigure, ExactFigures}
 use Rattle.ratio.proofs.Nearest.{Is}
@@ -47,58 +49,34 @@ pub record BeamFigures (x : Section) (o : Outcome) : Type 0 where
   pub width : Is (crackWidth x) (o .third)
   pub deflection-is : Is (deflection x) (o .fourth)
 
-section-figures : (x : Section) → BeamFigures x (sectionOutcome x)
-unfolding sectionOutcome fromDepth fromBending fromShear fromSpacing fromLeastLinks fromStress fromWidth fromDeflection
-section-figures x =
-    let P = BeamFigures x in
-    if-case P (leastSteel x) _ _
-    (λ _. if-case P (compressionDepth x) _ _
-    (λ _. if-case P (leb (M x) (bendingCapacity x)) _ _
-    (λ _. if-case P (leb (Vd x) (shearCapacity x)) _ _
-    (λ _. if-case P (linkSpacing x) _ _
-    (λ _. if-case P (leastLinks x) _ _
-    (λ _. if-case P (stressHolds x) _ _
-    (λ _. if-case P (leb (crackWidth x) (widthLimit x)) _ _
-    (λ _. record { moment = refl; shear = refl; width = refl; deflection-is = refl })
-    (λ _. record { moment = refl; shear = refl; width = refl; deflection-is = tt }))
-    (λ _. record { moment = refl; shear = refl; width = tt; deflection-is = tt }))
-    (λ _. record { moment = refl; shear = refl; width = tt; deflection-is = tt }))
-    (λ _. record { moment = refl; shear = refl; width = tt; deflection-is = tt }))
-    (λ _. record { moment = refl; shear = refl; width = tt; deflection-is = tt }))
-    (λ _. record { moment = refl; shear = tt; width = tt; deflection-is = tt }))
-    (λ _. record { moment = tt; shear = tt; width = tt; deflection-is = tt }))
-    (λ _. record { moment = tt; shear = tt; width = tt; deflection-is = tt })
+section-figures : {x : Section} {o : Outcome} → beams.WayOut x o → BeamFigures x o
+section-figures (beams.no-figure _) = record { moment = tt; shear = tt; width = tt; deflection-is = tt }
+section-figures (beams.to-moment _) = record { moment = refl; shear = tt; width = tt; deflection-is = tt }
+section-figures (beams.to-shear _) = record { moment = refl; shear = refl; width = tt; deflection-is = tt }
+section-figures (beams.to-width _ _ _) = record { moment = refl; shear = refl; width = refl; deflection-is = tt }
+section-figures (beams.to-deflection _ _ _) = record { moment = refl; shear = refl; width = refl; deflection-is = refl }
 
-pub beam-figures : (x : Beam) → BeamFigures (sectionOf x) (beamOutcome x)
-unfolding beamOutcome
-beam-figures x = section-figures (sectionOf x)
+pub beam-figures : (x : Beam) → AcceptedBeam x → BeamFigures (sectionOf x) (beamOutcome x)
+beam-figures x a = section-figures (beams.way-out x a)
 
 -- the axial figure stands first
 abbrev pub AxialFigure : Column → Concrete → Steel → Outcome → Type 0
 AxialFigure x concrete steel o = Is (axialCapacity x concrete steel) (o .first)
 
-pub axial-figure : (x : Column) (concrete : Concrete) (steel : Steel) → AxialFigure x concrete steel (columnOutcome x concrete steel)
-unfolding columnOutcome linksOutcome slendernessOutcome axialOutcome
-axial-figure x concrete steel =
-    let P = AxialFigure x concrete steel in
-    if-case P (steelFits x) _ _
-    (λ _. if-case P (linksFit x) _ _
-    (λ _. if-case P (slendernessFits x) _ _
-    (λ _. if-case P (leb (x .N) (axialCapacity x concrete steel)) _ _ (λ _. refl) (λ _. refl))
-    (λ _. tt))
-    (λ _. tt))
-    (λ _. tt)
+axial-stands : {x : Column} {concrete : Concrete} {steel : Steel} {o : Outcome} → columns.WayOut x concrete steel o → AxialFigure x concrete steel o
+axial-stands (columns.no-figure _) = tt
+axial-stands (columns.to-axial _) = refl
+
+pub axial-figure : (x : Column) (concrete : Concrete) (steel : Steel) → Given x concrete steel → AxialFigure x concrete steel (columnOutcome x concrete steel)
+axial-figure x concrete steel given = axial-stands (columns.way-out x concrete steel given)
 
 pub record MeshFigures (x : Mesh) (o : Outcome) : Type 0 where
   pub anchorage : Is (anchorageLength x) (o .first)
   pub lap : Is (lapLength x) (o .second)
 
+lengths-stand : {x : Mesh} {o : Outcome} → meshes.WayOut x o → MeshFigures x o
+lengths-stand (meshes.to-anchorage _) = record { anchorage = refl; lap = tt }
+lengths-stand (meshes.to-lap _) = record { anchorage = refl; lap = refl }
+
 pub mesh-figures : (x : Mesh) → MeshFigures x (meshOutcome x)
-unfolding meshOutcome lapOutcome
-mesh-figures x =
-    let P = MeshFigures x in
-    if-case P (leb (anchorageLength x) (x .anchorage)) _ _
-    (λ _. if-case P (leb (lapLength x) (x .lap)) _ _
-    (λ _. record { anchorage = refl; lap = refl })
-    (λ _. record { anchorage = refl; lap = refl }))
-    (λ _. record { anchorage = refl; lap = tt })
+mesh-figures x = lengths-stand (meshes.way-out x)

@@ -1,17 +1,14 @@
 -- The utilizations of an accepted member are the nearest doubles, and each decides its check.
 use Prim.Native.Nat.{ℕ, _*_, _^_, _≤_, _<_}
-use mathlib.Core.Path.{_≡_, refl, _∙_}
+use mathlib.Core.Path.{_≡_, _∙_}
 use mathlib.Core.List.{List}
-use mathlib.Core.Bool.{Bool, true, false}
-use native.Mathlib.Nat.{lt-of-mul-lt-mul-right, mul-le-mul-left}
+use native.Mathlib.Nat.{mul-le-mul-left, mul-le-mul-right}
 use native.Mathlib.Omega.{arith}
 use lib.Dec.{leb, eqb}
-use borrow.Author.Tests.{ne-eqb, leb-true, leb-false, le-leb, lt-leb}
 use Rattle.quantity.specs.Rounding.{down}
-use Rattle.quantity.proofs.Choice.{if-case}
+use Rattle.quantity.proofs.Choice.{choice-most}
+use Rattle.quantity.proofs.Reflects.{same-le}
 use Rattle.quantity.proofs.Rounding.{le-down, down-le, down-below}
-use Rattle.material.specs.Concrete.{concreteOf}
-use Rattle.material.specs.Steel.{steelOf}
 use Rattle.question.specs.declared.Question.{Question}
 use Rattle.question.proofs.Numbers.{numbered}
 use Rattle.outcome.specs.declared.Outcome.{Outcome}
@@ -22,15 +19,19 @@ use Rattle.section.specs.Section.{sectionOf, l₀, M, Vd}
 use Rattle.section.specs.Bounded.{Bounded}
 use Rattle.section.proofs.Bounded.{bounded}
 use Rattle.cracking.specs.Steps.{widthLimit}
-use Rattle.deflection.specs.Steps.{spanDivisor, deflection, deflectionHolds}
-use Rattle.deflection.proofs.Sizes.{divisor-between}
+use Rattle.deflection.specs.Steps.{deflection, deflectionHolds}
+use Rattle.deflection.proofs.Bounds.{divisor-between}
 use Rattle.built.specs.declared.Built.{Built}
-use Rattle.built.specs.declared.Verdict.the-variants.{Accepted, Refused}
+use Rattle.question.specs.declared.Verdict.the-variants.{Accepted, Refused}
+use Rattle.field.specs.declared.MemberKind.{MemberKind}
+use Rattle.field.specs.declared.MemberKind.the-variants as kinds
+use Rattle.field.specs.Fields.{kindOf}
 use Rattle.layout.specs.Layout.{beamAt, columnAt, meshAt, memberAt}
 use Rattle.built.specs.Built.{memberOf}
 use Rattle.built.specs.Verdict.{builtVerdict}
 use Rattle.built.proofs.Accepted.{accepted-built}
 use Rattle.checks.specs.Outcome.{outcomeOf}
+use Rattle.column.proofs.Safe.{column-given}
 use Rattle.checks.proofs.Figures.{member-short}
 use Rattle.ratio.specs.declared.Utilization.{Utilization}
 use Rattle.utilization.specs.declared.Answer.{Answer}
@@ -46,30 +47,18 @@ use Rattle.ratio.proofs.Nearest.{figure-nearest, limit-nearest, figure-decides,
 
 pub width-limit-small : (x : Section) → widthLimit x < 2 ^ 53
 unfolding widthLimit
-width-limit-small x = if-case (λ (n : ℕ). n < 2 ^ 53) (eqb (x .environment) 1) 300 200 (λ _. omega arith) (λ _. omega arith)
+width-limit-small x = omega (arith, choice-most (eqb (x .environment) 1) 300 200)
 
-deflection-limit-small : (x : Section) → Bounded x → deflectionLimit x < 2 ^ 53
+pub deflection-limit-small : (x : Section) → Bounded x → deflectionLimit x < 2 ^ 53
 unfolding deflectionLimit
 deflection-limit-small x a =
     let d = divisor-between (l₀ x) (x .strict) .0 in
     let k : deflectionLimit x ≤ 100 * l₀ x = down-le d (omega (arith, mul-le-mul-left (100 * l₀ x) d)) in
     omega (arith, a .l₀-most)
 
-pub limit-found : (x : Section) (d r : ℕ) → Bounded x → d ≡ spanDivisor (l₀ x) (x .strict) → r ≡ down (100 * l₀ x) d → (r ≡ deflectionLimit x) × (r < 2 ^ 53)
-unfolding deflectionLimit
-limit-found x d r a p e =
-    let q : r ≡ deflectionLimit x = e ∙ rw p in
-    (q, rw q (deflection-limit-small x a))
-
 -- a whole number against a fraction rounded down: as against the fraction
 down-leb : (k n : ℕ) {d : ℕ} → 0 < d → leb k (down n d) ≡ leb (k * d) n
-down-leb k n {d} p = go (leb (k * d) n) refl
-  where
-    go : (t : Bool) → leb (k * d) n ≡ t → leb k (down n d) ≡ t
-    go true e = le-leb k (down n d) (le-down p (leb-true (k * d) n e))
-    go false e =
-        let t : down n d * d < k * d = omega (arith, down-below n d, leb-false (k * d) n e) in
-        lt-leb k (down n d) (lt-of-mul-lt-mul-right d t)
+down-leb k n {d} p = same-le k (down n d) (k * d) n (λ h. omega (arith, mul-le-mul-right d h, down-below n d)) (λ h. le-down p h)
 
 deflection-by-limit : (x : Section) → leb (deflection x) (deflectionLimit x) ≡ deflectionHolds x
 unfolding deflectionLimit deflectionHolds
@@ -109,7 +98,7 @@ unfolding beamUtilization columnUtilization meshUtilization
 member-decides (beam mark x) a =
     let s = sectionOf x in
     let e = member-exact (beam mark x) a in
-    let f = beam-figures x in
+    let f = beam-figures x (a .1) in
     record {
       moment = figure-decides _ _ _ (e .first) (f .moment);
       shear = figure-decides _ _ _ (e .second) (f .shear);
@@ -117,7 +106,7 @@ member-decides (beam mark x) a =
       deflection = rw (← deflection-by-limit s) (limit-decides _ _ _ (f .deflection-is) (deflection-limit-small s (bounded x (a .1))));
     }
 member-decides (column mark x) a =
-    record { axial = figure-decides _ _ _ (member-exact (column mark x) a .first) (axial-figure x (concreteOf (x .concrete)) (steelOf (x .steel))) }
+    record { axial = figure-decides _ _ _ (member-exact (column mark x) a .first) (axial-figure x _ _ (column-given x (a .1))) }
 member-decides (mesh mark x) a =
     let f = mesh-figures x in
     record {
@@ -150,19 +139,19 @@ member-fair m a = rw (member-nearest m a) (nearest-member-fair m a)
 pub beam-bounded : {x : Beam} {y : Section} → y ≡ sectionOf x → AcceptedBeam x → Bounded y
 beam-bounded {x} e a = rw e (bounded x a)
 
-module _ (mark : ℕ) (v : List ℕ) (o : Outcome) {k : ℕ} {u : Utilization} where
-  pub of-beam : {x : Beam} {y : Section} → k ≡ 1 → x ≡ beamAt v → y ≡ sectionOf x → u ≡ beamUtilization quotient y o →
-      u ≡ utilizationOf quotient (memberAt mark k v) o
+module _ (mark number : ℕ) (v : List ℕ) (o : Outcome) {kind : MemberKind} {u : Utilization} (is : kind ≡ kindOf number) where
+  pub of-beam : {x : Beam} {y : Section} → kind ≡ kinds.Beam → x ≡ beamAt v → y ≡ sectionOf x → u ≡ beamUtilization quotient y o →
+      u ≡ utilizationOf quotient (memberAt mark (kindOf number) v) o
   unfolding memberAt
-  of-beam p q r e = rw p (e ∙ rw (r, q))
+  of-beam p q r e = rw (← is, p) (e ∙ rw (r, q))
 
-  pub of-column : {x : Column} → k ≡ 2 → x ≡ columnAt v → u ≡ columnUtilization quotient x o → u ≡ utilizationOf quotient (memberAt mark k v) o
+  pub of-column : {x : Column} → kind ≡ kinds.Column → x ≡ columnAt v → u ≡ columnUtilization quotient x o → u ≡ utilizationOf quotient (memberAt mark (kindOf number) v) o
   unfolding memberAt
-  of-column p q e = rw p (e ∙ rw q)
+  of-column p q e = rw (← is, p) (e ∙ rw q)
 
-  pub of-mesh : {x : Mesh} → (k ≡ 1 → ⊥) → (k ≡ 2 → ⊥) → x ≡ meshAt v → u ≡ meshUtilization quotient x o → u ≡ utilizationOf quotient (memberAt mark k v) o
+  pub of-mesh : {x : Mesh} → kind ≡ kinds.Mesh → x ≡ meshAt v → u ≡ meshUtilization quotient x o → u ≡ utilizationOf quotient (memberAt mark (kindOf number) v) o
   unfolding memberAt
-  of-mesh p r q e = rw (ne-eqb k 1 p, ne-eqb k 2 r) (e ∙ rw q)
+  of-mesh p q e = rw (← is, p) (e ∙ rw q)
 
 -- ---- The answer.
 

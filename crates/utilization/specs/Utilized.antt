@@ -17,8 +17,8 @@ use Rattle.axial.specs.Steps.{axialCapacity}
 use Rattle.anchorage.specs.Steps.{anchorageLength}
 use Rattle.lap.specs.Steps.{lapLength}
 use Rattle.built.specs.declared.Built.{Built}
-use Rattle.built.specs.declared.Verdict.{Verdict}
-use Rattle.built.specs.declared.Verdict.the-variants as verdicts
+use Rattle.question.specs.declared.Verdict.{Verdict}
+use Rattle.question.specs.declared.Verdict.the-variants as verdicts
 use Rattle.built.specs.Built.{memberOf}
 use Rattle.built.specs.Verdict.{builtVerdict}
 use Rattle.checks.specs.Outcome.{outcomeOf}

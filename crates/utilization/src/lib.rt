@@ -1,19 +1,20 @@
 // How far each check of a member is used: its demand over its figure, or its figure over its limit.
 ghost use mathlib.Core.Path.{_≡_};
-ghost use Prim.Native.Nat.{_<_, _^_};
 ghost use Rattle.member.specs.Member.{columnOf, meshOf};
 ghost use Rattle.member.specs.Accepted.{AcceptedColumn, AcceptedMesh, AcceptedMember};
 ghost use Rattle.section.specs.Bounded.{Bounded};
+ghost use Rattle.field.specs.Fields.{kindOf};
 ghost use Rattle.layout.specs.Layout.{memberAt};
 ghost use Rattle.ratio.specs.Ratio.{quotient, ExactFigures};
 ghost use Rattle.utilization.specs.Utilization.{deflectionLimit, beamUtilization, columnUtilization, meshUtilization, utilizationOf};
 ghost use Rattle.utilization.specs.Utilized.{Utilized};
 use built::Built;
-use built::Verdict;
 use built::built_verdict;
 use checks::check_member;
 use cracking::width_limit;
 use deflection::span_divisor;
+use field::MemberKind;
+use field::kind_of;
 use layout::beam_of;
 use layout::column_of;
 use layout::mesh_of;
@@ -22,6 +23,7 @@ use member::Mesh;
 use outcome::Outcome;
 use quantity::div_down;
 use question::Refusal;
+use question::Verdict;
 use ratio::Utilization;
 use ratio::no_ratio;
 use ratio::over_figure;
@@ -39,7 +41,7 @@ pub enum Answer {
 // The limit of the deflection, 0.01 mm.
 fn deflection_limit(x: Section) -> u64
     requires { ⌜ Bounded x ⌝ }
-    ensures { λ r. ⌜ (r ≡ deflectionLimit x) × (r < 2 ^ 53) ⌝ }
+    ensures { λ r. ⌜ r ≡ deflectionLimit x ⌝ }
 {
     div_down(100 * x.span.0, span_divisor(x.span, x.strict))
 }
@@ -87,15 +89,15 @@ fn mesh_utilization(x: Mesh, o: Outcome) -> Utilization
     )
 }
 
-// Of an accepted member with this outcome.
-fn member_utilization(mark: u32, kind: u32, v: &[u32; 40], o: Outcome) -> Utilization
-    requires { ⌜ (AcceptedMember (memberAt mark kind (now v))) × (ExactFigures o) ⌝ }
-    ensures { λ r. ⌜ r ≡ utilizationOf quotient (memberAt mark kind (now (v .entry))) o ⌝ }
+// Of an accepted member with this outcome, its kind by number.
+fn member_utilization(mark: u32, number: u32, v: &[u32; 40], o: Outcome) -> Utilization
+    requires { ⌜ (AcceptedMember (memberAt mark (kindOf number) (now v))) × (ExactFigures o) ⌝ }
+    ensures { λ r. ⌜ r ≡ utilizationOf quotient (memberAt mark (kindOf number) (now (v .entry))) o ⌝ }
 {
-    match kind {
-        1 => beam_utilization(section_of(beam_of(v)), o),
-        2 => column_utilization(column_of(v), o),
-        _ => mesh_utilization(mesh_of(v), o),
+    match kind_of(number) {
+        MemberKind::Beam => beam_utilization(section_of(beam_of(v)), o),
+        MemberKind::Column => column_utilization(column_of(v), o),
+        MemberKind::Mesh => mesh_utilization(mesh_of(v), o),
     }
 }
 

@@ -1,42 +1,29 @@
 -- `anchorage::basic_length` meets its contract.
-use Prim.Native.Nat.{_*_, _≤_}
-use native.Mathlib.Nat.{mul-le-mul}
+use Prim.Native.Nat.{_*_}
+use mathlib.Core.Path.{_≡_}
 use native.Mathlib.Omega.{arith}
-use Rattle.standard.proofs.Mesh.{multiple-between}
+use Rattle.member.specs.Member.{meshOf}
 use Rattle.anchorage.specs.Steps.{basicLength}
-use Rattle.anchorage.proofs.Bounds.{Plain, plain}
+use Rattle.anchorage.proofs.Bounds.{Plain, plain, basic-most}
 use borrow.Author.Needs.{needs}
 use Rattle.anchorage.proofs.basic_length.Statement.{statement}
 use Rattle.anchorage.proofs.basic_length.Tie as tie
 
-multiple : (c : tie.After-multiple-of) → c .multiple-of .result ≤ 60
-multiple c =
-    let x = c .before .args .x in
-    rw (c .multiple-of .ensures) (multiple-between (x .family) (c .before .args .cross) (x .concrete) (omega arith) .1)
-
 sizes : (c : tie.After-in-millimetres) →
     Plain (c .before .before .before .before .multiple-of .result) (c .in-millimetres .result) (c .before .before .chosen .result) (c .before .chosen2 .result)
-sizes c = plain (multiple (c .before .before .before .before)) (omega arith) (omega arith) (omega arith)
+sizes c =
+    let k = c .before .before in
+    let s = k .before .before .before in
+    rw (c .in-millimetres .ensures, c .before .chosen2 .ensures, k .chosen .ensures, k .before .before .multiple-of .ensures)
+    (plain (meshOf (s .args .x)) (s .pre .0) (s .args .cross) (s .args .apart) (s .pre .1))
 
-whole-size : (c : tie.After-seismic-factor) → c .before .larger .result * c .seismic-factor .result ≤ 15456000
-whole-size c =
-    let h : c .before .larger .result ≤ 134400 = omega (arith, sizes (c .before .before)) in
-    mul-le-mul h (c .seismic-factor .ensures .1)
-
-multiple-of-requires : tie.Need-multiple-of-requires
-multiple-of-requires c κs = search needs
-
-cast-multiple : tie.Need-cast-multiple
-cast-multiple c = search needs
-
-chosen-requires : tie.Need-chosen-requires
-chosen-requires c κs = search needs
-
-chosen-requires-2 : tie.Need-chosen-requires-2
-chosen-requires-2 c κs = search needs
-
-in-millimetres-requires : tie.Need-in-millimetres-requires
-in-millimetres-requires c κs = search needs
+value : (c : tie.After-seismic-factor) →
+    let s = c .before .before .before .before .before .before .before in
+    c .before .larger .result * c .seismic-factor .result ≡ basicLength (s .args .cross) (s .args .apart) (meshOf (s .args .x))
+unfolding basicLength
+value c =
+    let k = c .before .before .before in
+    rw (c .seismic-factor .ensures, c .before .larger .ensures, c .before .before .in-millimetres .ensures, k .chosen2 .ensures, k .before .chosen .ensures, k .before .before .before .multiple-of .ensures)
 
 mul-plain : tie.Need-mul-plain
 mul-plain c = omega (arith, sizes c)
@@ -47,36 +34,27 @@ mul-plain-2 c = omega (arith, sizes c)
 mul-plain-3 : tie.Need-mul-plain-3
 mul-plain-3 c = omega (arith, sizes c)
 
-larger-requires : tie.Need-larger-requires
-larger-requires c κs = search needs
-
-seismic-factor-requires : tie.Need-seismic-factor-requires
-seismic-factor-requires c κs = search needs
-
 mul-result : tie.Need-mul-result
-mul-result c = omega (arith, whole-size c)
+mul-result c =
+    let s = c .before .before .before .before .before .before .before in
+    omega (arith, value c, basic-most (meshOf (s .args .x)) (s .pre .0) (s .args .cross) (s .args .apart) (s .pre .1))
 
 returns : tie.Need-returns
-unfolding basicLength
-returns c =
-    let k = c .before .before .before in (
-      rw (c .seismic-factor .ensures .0, c .before .larger .ensures, c .before .before .in-millimetres .ensures, k .chosen2 .ensures .0, k .before .chosen .ensures .0, k .before .before .before .multiple-of .ensures),
-      whole-size c,
-    )
+returns c = value c
 
 pub basic-length-spec : {M : Type 1} → statement M
 basic-length-spec =
     tie.close
     (tie.spec
-    multiple-of-requires
-    cast-multiple
-    chosen-requires
-    chosen-requires-2
-    in-millimetres-requires
+    (λ c κs. search needs)
+    (λ c. search needs)
+    (λ c κs. search needs)
+    (λ c κs. search needs)
+    (λ c κs. search needs)
     mul-plain
     mul-plain-2
     mul-plain-3
-    larger-requires
-    seismic-factor-requires
+    (λ c κs. search needs)
+    (λ c κs. search needs)
     mul-result
     returns)

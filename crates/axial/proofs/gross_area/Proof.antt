@@ -6,12 +6,6 @@ use borrow.Author.Needs.{needs}
 use Rattle.axial.proofs.gross_area.Statement.{statement}
 use Rattle.axial.proofs.gross_area.Tie as tie
 
-in-millimetres-requires : tie.Need-in-millimetres-requires
-in-millimetres-requires c κs = search needs
-
-in-millimetres-requires-2 : tie.Need-in-millimetres-requires-2
-in-millimetres-requires-2 c κs = search needs
-
 mul-result : tie.Need-mul-result
 mul-result c =
     let b : c .before .in-millimetres .result ≤ 1500 = omega arith in
@@ -23,4 +17,4 @@ returns c = rw (c .in-millimetres2 .ensures, c .before .in-millimetres .ensures)
 
 pub gross-area-spec : {M : Type 1} → statement M
 gross-area-spec =
-    tie.close (tie.spec in-millimetres-requires in-millimetres-requires-2 mul-result returns)
+    tie.close (tie.spec (λ c κs. search needs) (λ c κs. search needs) mul-result returns)

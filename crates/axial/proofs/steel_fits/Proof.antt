@@ -7,18 +7,12 @@ use borrow.Author.Needs.{needs}
 use Rattle.axial.proofs.steel_fits.Statement.{statement}
 use Rattle.axial.proofs.steel_fits.Tie as tie
 
-bars-area-requires : tie.Need-bars-area-requires
-bars-area-requires c κs = search needs
-
 mul-result : tie.Need-mul-result
 mul-result c = let s = c .before in omega (arith, steel-most (columnOf (s .args .x)) (s .pre))
-
-gross-area-requires : tie.Need-gross-area-requires
-gross-area-requires c κs = search needs
 
 returns : tie.Need-returns
 unfolding steelFits
 returns c = rw (c .gross-area .ensures, c .before .bars-area .ensures)
 
 pub steel-fits-spec : {M : Type 1} → statement M
-steel-fits-spec = tie.close (tie.spec bars-area-requires mul-result gross-area-requires returns)
+steel-fits-spec = tie.close (tie.spec (λ c κs. search needs) mul-result (λ c κs. search needs) returns)

@@ -6,14 +6,8 @@ use borrow.Author.Needs.{needs}
 use Rattle.bars.proofs.group_area.Statement.{statement}
 use Rattle.bars.proofs.group_area.Tie as tie
 
-wide-requires : tie.Need-wide-requires
-wide-requires c κs = search needs
-
 bar-area-requires : tie.Need-bar-area-requires
 bar-area-requires c κs = area-listed _ (c .before .pre .diameter .listed)
-
-wide-requires-2 : tie.Need-wide-requires-2
-wide-requires-2 c κs = search needs
 
 mul-result : tie.Need-mul-result
 mul-result c = record { fits = fits _ _ (search needs) (search needs) }
@@ -24,4 +18,4 @@ returns c = rw (c .before .before .wide .ensures, c .wide2 .ensures, c .before .
 
 pub group-area-spec : {M : Type 1} → statement M
 group-area-spec =
-    tie.close (tie.spec wide-requires bar-area-requires wide-requires-2 mul-result returns)
+    tie.close (tie.spec (λ c κs. search needs) bar-area-requires (λ c κs. search needs) mul-result returns)

@@ -5,12 +5,6 @@ use borrow.Author.Needs.{needs}
 use Rattle.bars.proofs.group_diameters.Statement.{statement}
 use Rattle.bars.proofs.group_diameters.Tie as tie
 
-wide-requires : tie.Need-wide-requires
-wide-requires c κs = search needs
-
-wide-requires-2 : tie.Need-wide-requires-2
-wide-requires-2 c κs = search needs
-
 mul-result : tie.Need-mul-result
 mul-result c = record { fits = fits _ _ (search needs) (search needs) }
 
@@ -19,4 +13,4 @@ unfolding groupDiameters
 returns c = rw (c .before .wide .ensures, c .wide2 .ensures)
 
 pub group-diameters-spec : {M : Type 1} → statement M
-group-diameters-spec = tie.close (tie.spec wide-requires wide-requires-2 mul-result returns)
+group-diameters-spec = tie.close (tie.spec (λ c κs. search needs) (λ c κs. search needs) mul-result returns)

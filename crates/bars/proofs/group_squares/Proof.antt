@@ -7,15 +7,6 @@ use borrow.Author.Needs.{needs}
 use Rattle.bars.proofs.group_squares.Statement.{statement}
 use Rattle.bars.proofs.group_squares.Tie as tie
 
-wide-requires : tie.Need-wide-requires
-wide-requires c κs = search needs
-
-wide-requires-2 : tie.Need-wide-requires-2
-wide-requires-2 c κs = search needs
-
-wide-requires-3 : tie.Need-wide-requires-3
-wide-requires-3 c κs = search needs
-
 mul-result : tie.Need-mul-result
 mul-result c = record { fits = fits _ _ (search needs) (search needs) }
 
@@ -29,4 +20,4 @@ returns c = rw (c .before .before .wide .ensures, c .before .wide2 .ensures, c .
 pub group-squares-spec : {M : Type 1} → statement M
 group-squares-spec =
     tie.close
-    (tie.spec wide-requires wide-requires-2 wide-requires-3 mul-result mul-result-2 returns)
+    (tie.spec (λ c κs. search needs) (λ c κs. search needs) (λ c κs. search needs) mul-result mul-result-2 returns)

@@ -6,9 +6,6 @@ use borrow.Author.Needs.{needs}
 use Rattle.beam.proofs.check_beam.Statement.{statement}
 use Rattle.beam.proofs.check_beam.Tie as tie
 
-section-of-requires : tie.Need-section-of-requires
-section-of-requires c κs = search needs
-
 check-section-requires : tie.Need-check-section-requires
 check-section-requires c κs = rw (c .section-of .ensures) (bounded _ (c .before .pre))
 
@@ -17,4 +14,4 @@ unfolding beamOutcome
 returns c = c .check-section .ensures ∙ ap sectionOutcome (c .before .section-of .ensures)
 
 pub check-beam-spec : {M : Type 1} → statement M
-check-beam-spec = tie.close (tie.spec section-of-requires check-section-requires returns)
+check-beam-spec = tie.close (tie.spec (λ c κs. search needs) check-section-requires returns)

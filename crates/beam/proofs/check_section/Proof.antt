@@ -1,5 +1,5 @@
 -- `beam::check_section` meets its contract.
-use Rattle.bending.proofs.Tests.{least-steel-pass}
+use Rattle.bending.proofs.Tests.{least-steel-reflects}
 use mathlib.Core.Path.{sym, _∙_}
 use Rattle.beam.specs.Checks.{sectionOutcome}
 use borrow.Author.Needs.{needs}
@@ -10,10 +10,7 @@ least-steel-requires : tie.Need-least-steel-requires
 least-steel-requires c κs = c .pre
 
 from-depth-requires : tie.Need-from-depth-requires
-from-depth-requires c κs = (c .before .before .pre, least-steel-pass _ (sym (c .before .least-steel .ensures) ∙ c .if1 .taken) .0)
-
-stop-requires : tie.Need-stop-requires
-stop-requires c κs = search needs
+from-depth-requires c κs = (c .before .before .pre, least-steel-reflects _ .holds (sym (c .before .least-steel .ensures) ∙ c .if1 .taken) .0)
 
 returns : tie.Need-returns
 unfolding sectionOutcome
@@ -21,8 +18,8 @@ returns c = rw (sym (c .before .before .least-steel .ensures) ∙ c .before .if1
 
 returns-2 : tie.Need-returns-2
 unfolding sectionOutcome
-returns-2 c = rw (sym (c .before .before .least-steel .ensures) ∙ c .before .if1 .left) (c .stop .ensures)
+returns-2 c = rw (sym (c .before .before .least-steel .ensures) ∙ c .before .if1 .left) (c .no-figure .ensures)
 
 pub check-section-spec : {M : Type 1} → statement M
 check-section-spec =
-    tie.close (tie.spec least-steel-requires from-depth-requires stop-requires returns returns-2)
+    tie.close (tie.spec least-steel-requires from-depth-requires (λ c κs. search needs) returns returns-2)

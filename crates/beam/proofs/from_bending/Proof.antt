@@ -13,19 +13,13 @@ from-shear-requires c κs = let p = c .before .before .before .pre in (p .0, p .
 is-deep-requires : tie.Need-is-deep-requires
 is-deep-requires c κs = c .before .before .before .pre .0
 
-bending-check-requires : tie.Need-bending-check-requires
-bending-check-requires c κs = search needs
-
-after-bending-requires : tie.Need-after-bending-requires
-after-bending-requires c κs = search needs
-
 returns : tie.Need-returns
 returns c = bending-holds _ _ _ (c .before .before .before .bending-capacity .ensures) (c .before .if1 .taken) (c .from-shear .ensures)
 
 returns-2 : tie.Need-returns-2
 returns-2 c =
     bending-fails _ _ _ (c .before .before .before .before .before .bending-capacity .ensures) _ _ (c .before .before .before .if1 .left)
-    (c .before .before .is-deep .ensures) (c .before .bending-check .ensures) (c .after-bending .ensures)
+    (c .before .before .is-deep .ensures) (c .before .bending-check .ensures) (c .one-figure .ensures)
 
 pub from-bending-spec : {M : Type 1} → statement M
 from-bending-spec =
@@ -34,7 +28,7 @@ from-bending-spec =
     bending-capacity-requires
     from-shear-requires
     is-deep-requires
-    bending-check-requires
-    after-bending-requires
+    (λ c κs. search needs)
+    (λ c κs. search needs)
     returns
     returns-2)

@@ -11,18 +11,15 @@ compression-depth-requires c κs = c .pre .0
 from-bending-requires : tie.Need-from-bending-requires
 from-bending-requires c κs = let p = c .before .before .pre in (p .0, p .1, sym (c .before .compression-depth .ensures) ∙ c .if1 .taken)
 
-stop-requires : tie.Need-stop-requires
-stop-requires c κs = search needs
-
 returns : tie.Need-returns
 unfolding fromDepth
 returns c = rw (sym (c .before .before .compression-depth .ensures) ∙ c .before .if1 .taken) (c .from-bending .ensures)
 
 returns-2 : tie.Need-returns-2
 unfolding fromDepth
-returns-2 c = rw (sym (c .before .before .compression-depth .ensures) ∙ c .before .if1 .left) (c .stop .ensures)
+returns-2 c = rw (sym (c .before .before .compression-depth .ensures) ∙ c .before .if1 .left) (c .no-figure .ensures)
 
 pub from-depth-spec : {M : Type 1} → statement M
 from-depth-spec =
     tie.close
-    (tie.spec compression-depth-requires from-bending-requires stop-requires returns returns-2)
+    (tie.spec compression-depth-requires from-bending-requires (λ c κs. search needs) returns returns-2)

@@ -11,18 +11,15 @@ least-links-requires c κs = c .pre .0
 from-stress-requires : tie.Need-from-stress-requires
 from-stress-requires c κs = let p = c .before .before .pre in (p .0, p .1)
 
-after-shear-requires : tie.Need-after-shear-requires
-after-shear-requires c κs = search needs
-
 returns : tie.Need-returns
 unfolding fromLeastLinks
 returns c = rw (sym (c .before .before .least-links .ensures) ∙ c .before .if1 .taken) (c .from-stress .ensures)
 
 returns-2 : tie.Need-returns-2
 unfolding fromLeastLinks
-returns-2 c = rw (sym (c .before .before .least-links .ensures) ∙ c .before .if1 .left) (c .after-shear .ensures)
+returns-2 c = rw (sym (c .before .before .least-links .ensures) ∙ c .before .if1 .left) (c .two-figures .ensures)
 
 pub from-least-links-spec : {M : Type 1} → statement M
 from-least-links-spec =
     tie.close
-    (tie.spec least-links-requires from-stress-requires after-shear-requires returns returns-2)
+    (tie.spec least-links-requires from-stress-requires (λ c κs. search needs) returns returns-2)

@@ -12,18 +12,15 @@ shear-capacity-requires c κs = c .pre .0
 from-spacing-requires : tie.Need-from-spacing-requires
 from-spacing-requires c κs = let p = c .before .before .before .before .pre in (p .0, p .1)
 
-after-shear-requires : tie.Need-after-shear-requires
-after-shear-requires c κs = search needs
-
 returns : tie.Need-returns
 returns c =
     shear-holds _ _ _ _ (ap (λ (f : Force). f .0) (c .before .before .before .before .shear-capacity .ensures)) (c .before .if1 .taken) (c .from-spacing .ensures)
 
 returns-2 : tie.Need-returns-2
 returns-2 c =
-    shear-fails _ _ _ _ (ap (λ (f : Force). f .0) (c .before .before .before .before .shear-capacity .ensures)) (c .before .if1 .left) (c .after-shear .ensures)
+    shear-fails _ _ _ _ (ap (λ (f : Force). f .0) (c .before .before .before .before .shear-capacity .ensures)) (c .before .if1 .left) (c .two-figures .ensures)
 
 pub from-shear-spec : {M : Type 1} → statement M
 from-shear-spec =
     tie.close
-    (tie.spec shear-capacity-requires from-spacing-requires after-shear-requires returns returns-2)
+    (tie.spec shear-capacity-requires from-spacing-requires (λ c κs. search needs) returns returns-2)

@@ -11,16 +11,13 @@ link-spacing-requires c κs = c .pre .0
 from-least-links-requires : tie.Need-from-least-links-requires
 from-least-links-requires c κs = let p = c .before .before .pre in (p .0, p .1)
 
-after-shear-requires : tie.Need-after-shear-requires
-after-shear-requires c κs = search needs
-
 returns : tie.Need-returns
 unfolding fromSpacing
 returns c = rw (sym (c .before .before .link-spacing .ensures) ∙ c .before .if1 .taken) (c .from-least-links .ensures)
 
 returns-2 : tie.Need-returns-2
 unfolding fromSpacing
-returns-2 c = rw (sym (c .before .before .link-spacing .ensures) ∙ c .before .if1 .left) (c .after-shear .ensures)
+returns-2 c = rw (sym (c .before .before .link-spacing .ensures) ∙ c .before .if1 .left) (c .two-figures .ensures)
 
 pub from-spacing-spec : {M : Type 1} → statement M
 from-spacing-spec =
@@ -28,6 +25,6 @@ from-spacing-spec =
     (tie.spec
     link-spacing-requires
     from-least-links-requires
-    after-shear-requires
+    (λ c κs. search needs)
     returns
     returns-2)

@@ -5,16 +5,10 @@ use Rattle.bending.specs.Steps.{bendingCapacity}
 use Rattle.bending.proofs.bending_capacity.Statement.{statement}
 use Rattle.bending.proofs.bending_capacity.Tie as tie
 
-is-deep-requires : tie.Need-is-deep-requires
-is-deep-requires c κs = search needs
-
 deep-capacity-requires : tie.Need-deep-capacity-requires
 deep-capacity-requires c κs =
     let s = c .before .before in
     (s .pre .0, sym (c .before .is-deep .ensures) ∙ c .if1 .taken, s .pre .1)
-
-shallow-capacity-requires : tie.Need-shallow-capacity-requires
-shallow-capacity-requires c κs = search needs
 
 returns : tie.Need-returns
 unfolding bendingCapacity
@@ -27,4 +21,4 @@ returns-2 c = rw (sym (c .before .before .is-deep .ensures) ∙ c .before .if1 .
 pub bending-capacity-spec : {M : Type 1} → statement M
 bending-capacity-spec =
     tie.close
-    (tie.spec is-deep-requires deep-capacity-requires shallow-capacity-requires returns returns-2)
+    (tie.spec (λ c κs. search needs) deep-capacity-requires (λ c κs. search needs) returns returns-2)

@@ -6,30 +6,15 @@ use Rattle.bending.proofs.Bounds.{sizes}
 use Rattle.bending.proofs.compression_depth.Statement.{statement}
 use Rattle.bending.proofs.compression_depth.Tie as tie
 
-cast-limit : tie.Need-cast-limit
-cast-limit c = search needs
-
-in-millimetres-requires : tie.Need-in-millimetres-requires
-in-millimetres-requires c κs = search needs
-
 mul-limit : tie.Need-mul-limit
 mul-limit c = rw (c .in-millimetres .ensures) (omega (arith, sizes (c .before .before .pre)))
-
-crushing-force-requires : tie.Need-crushing-force-requires
-crushing-force-requires c κs = search needs
 
 mul-limit-2 : tie.Need-mul-limit-2
 mul-limit-2 c =
     rw (c .before .in-millimetres .ensures, c .crushing-force .ensures) (omega (arith, sizes (c .before .before .before .pre)))
 
-tension-force-requires : tie.Need-tension-force-requires
-tension-force-requires c κs = search needs
-
 mul-result : tie.Need-mul-result
 mul-result c = omega (arith, sizes (c .before .before .before .before .pre))
-
-compression-force-requires : tie.Need-compression-force-requires
-compression-force-requires c κs = search needs
 
 mul-result-2 : tie.Need-mul-result-2
 mul-result-2 c = omega (arith, sizes (c .before .before .before .before .before .pre))
@@ -49,14 +34,14 @@ pub compression-depth-spec : {M : Type 1} → statement M
 compression-depth-spec =
     tie.close
     (tie.spec
-    cast-limit
-    in-millimetres-requires
+    (λ c. search needs)
+    (λ c κs. search needs)
     mul-limit
-    crushing-force-requires
+    (λ c κs. search needs)
     mul-limit-2
-    tension-force-requires
+    (λ c κs. search needs)
     mul-result
-    compression-force-requires
+    (λ c κs. search needs)
     mul-result-2
     add-result
     returns)

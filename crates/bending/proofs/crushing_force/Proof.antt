@@ -5,12 +5,6 @@ use Rattle.bending.proofs.Bounds.{sizes}
 use Rattle.bending.proofs.crushing_force.Statement.{statement}
 use Rattle.bending.proofs.crushing_force.Tie as tie
 
-in-tenths-requires : tie.Need-in-tenths-requires
-in-tenths-requires c κs = search needs
-
-in-millimetres-requires : tie.Need-in-millimetres-requires
-in-millimetres-requires c κs = search needs
-
 mul-result : tie.Need-mul-result
 mul-result c = rw (c .before .in-tenths .ensures, c .in-millimetres .ensures) (omega (arith, sizes (c .before .before .pre)))
 
@@ -19,4 +13,4 @@ returns c = rw (c .before .in-tenths .ensures, c .in-millimetres .ensures)
 
 pub crushing-force-spec : {M : Type 1} → statement M
 crushing-force-spec =
-    tie.close (tie.spec in-tenths-requires in-millimetres-requires mul-result returns)
+    tie.close (tie.spec (λ c κs. search needs) (λ c κs. search needs) mul-result returns)

@@ -8,16 +8,10 @@ use Rattle.bending.proofs.Capacity.{rounded-within, deep-value}
 use Rattle.bending.proofs.deep_capacity.Statement.{statement}
 use Rattle.bending.proofs.deep_capacity.Tie as tie
 
-net-tension-requires : tie.Need-net-tension-requires
-net-tension-requires c κs = search needs
-
 mul-div-up : tie.Need-mul-div-up
 mul-div-up c =
     let t = c .net-tension .result in
     omega (arith, product-most t t 480000000 480000000 (omega (arith, sizes (c .before .pre .0))))
-
-crushing-force-requires : tie.Need-crushing-force-requires
-crushing-force-requires c κs = search needs
 
 mul-div-up-2 : tie.Need-mul-div-up-2
 mul-div-up-2 c = omega (arith, sizes (c .before .before .pre .0))
@@ -25,17 +19,11 @@ mul-div-up-2 c = omega (arith, sizes (c .before .before .pre .0))
 div-up-requires : tie.Need-div-up-requires
 div-up-requires c κs = omega (arith, sizes (c .before .before .pre .0))
 
-steel-moment-requires : tie.Need-steel-moment-requires
-steel-moment-requires c κs = search needs
-
 sub-div-down : tie.Need-sub-div-down
 sub-div-down c =
     let s = c .before .before .before in
     rw (c .steel-moment .ensures, c .before .div-up .ensures, c .before .before .crushing-force .ensures, s .net-tension .ensures)
     (rounded-within (s .before .pre .0) (s .before .pre .2))
-
-div-down-requires : tie.Need-div-down-requires
-div-down-requires c κs = search needs
 
 returns : tie.Need-returns
 returns c =
@@ -47,12 +35,12 @@ pub deep-capacity-spec : {M : Type 1} → statement M
 deep-capacity-spec =
     tie.close
     (tie.spec
-    net-tension-requires
+    (λ c κs. search needs)
     mul-div-up
-    crushing-force-requires
+    (λ c κs. search needs)
     mul-div-up-2
     div-up-requires
-    steel-moment-requires
+    (λ c κs. search needs)
     sub-div-down
-    div-down-requires
+    (λ c κs. search needs)
     returns)

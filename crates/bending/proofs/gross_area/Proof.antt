@@ -4,12 +4,6 @@ use borrow.Author.Needs.{needs}
 use Rattle.bending.proofs.gross_area.Statement.{statement}
 use Rattle.bending.proofs.gross_area.Tie as tie
 
-in-millimetres-requires : tie.Need-in-millimetres-requires
-in-millimetres-requires c κs = search needs
-
-in-millimetres-requires-2 : tie.Need-in-millimetres-requires-2
-in-millimetres-requires-2 c κs = search needs
-
 mul-result : tie.Need-mul-result
 mul-result c = rw (c .before .in-millimetres .ensures, c .in-millimetres2 .ensures) (omega (arith, c .before .before .pre .G-most))
 
@@ -23,4 +17,4 @@ returns c = rw (c .before .before .in-millimetres .ensures, c .before .in-millim
 pub gross-area-spec : {M : Type 1} → statement M
 gross-area-spec =
     tie.close
-    (tie.spec in-millimetres-requires in-millimetres-requires-2 mul-result add-result returns)
+    (tie.spec (λ c κs. search needs) (λ c κs. search needs) mul-result add-result returns)

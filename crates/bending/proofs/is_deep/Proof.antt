@@ -7,28 +7,13 @@ use Rattle.bending.proofs.Tests.{deep-compared}
 use Rattle.bending.proofs.is_deep.Statement.{statement}
 use Rattle.bending.proofs.is_deep.Tie as tie
 
-in-millimetres-requires : tie.Need-in-millimetres-requires
-in-millimetres-requires c κs = search needs
-
-mul-steel : tie.Need-mul-steel
-mul-steel c = search needs
-
-crushing-force-requires : tie.Need-crushing-force-requires
-crushing-force-requires c κs = search needs
-
 mul-steel-2 : tie.Need-mul-steel-2
 mul-steel-2 c = rw (c .before .in-millimetres .ensures, c .crushing-force .ensures) (omega (arith, sizes (c .before .before .pre)))
-
-compression-force-requires : tie.Need-compression-force-requires
-compression-force-requires c κs = search needs
 
 add-result : tie.Need-add-result
 add-result c =
     let s = c .before .before in
     rw (s .in-millimetres .ensures, c .before .crushing-force .ensures) (omega (arith, sizes (s .before .pre)))
-
-tension-force-requires : tie.Need-tension-force-requires
-tension-force-requires c κs = search needs
 
 returns : tie.Need-returns
 returns c =
@@ -40,11 +25,11 @@ pub is-deep-spec : {M : Type 1} → statement M
 is-deep-spec =
     tie.close
     (tie.spec
-    in-millimetres-requires
-    mul-steel
-    crushing-force-requires
+    (λ c κs. search needs)
+    (λ c. search needs)
+    (λ c κs. search needs)
     mul-steel-2
-    compression-force-requires
+    (λ c κs. search needs)
     add-result
-    tension-force-requires
+    (λ c κs. search needs)
     returns)

@@ -6,28 +6,10 @@ use Rattle.bending.proofs.Tests.{least-steel-second, least-steel-short}
 use Rattle.bending.proofs.least_steel.Statement.{statement}
 use Rattle.bending.proofs.least_steel.Tie as tie
 
-gross-area-requires : tie.Need-gross-area-requires
-gross-area-requires c κs = search needs
-
-in-units-requires : tie.Need-in-units-requires
-in-units-requires c κs = search needs
-
-in-hundredths-requires : tie.Need-in-hundredths-requires
-in-hundredths-requires c κs = search needs
-
-mul-if1 : tie.Need-mul-if1
-mul-if1 c = search needs
-
-mul-result : tie.Need-mul-result
-mul-result c = search needs
-
 mul-result-2 : tie.Need-mul-result-2
 mul-result-2 c =
     let s = c .before .before in
     rw (s .in-hundredths .ensures, s .before .before .gross-area .ensures) (omega (arith, sizes (s .before .before .before .pre)))
-
-mul-result-3 : tie.Need-mul-result-3
-mul-result-3 c = search needs
 
 mul-result-4 : tie.Need-mul-result-4
 mul-result-4 c =
@@ -47,13 +29,13 @@ pub least-steel-spec : {M : Type 1} → statement M
 least-steel-spec =
     tie.close
     (tie.spec
-    gross-area-requires
-    in-units-requires
-    in-hundredths-requires
-    mul-if1
-    mul-result
+    (λ c κs. search needs)
+    (λ c κs. search needs)
+    (λ c κs. search needs)
+    (λ c. search needs)
+    (λ c. search needs)
     mul-result-2
-    mul-result-3
+    (λ c. search needs)
     mul-result-4
     returns
     returns-2)

@@ -3,14 +3,8 @@ use borrow.Author.Needs.{needs}
 use Rattle.bending.proofs.lever_arm.Statement.{statement}
 use Rattle.bending.proofs.lever_arm.Tie as tie
 
-minus-requires : tie.Need-minus-requires
-minus-requires c κs = search needs
-
-in-millimetres-requires : tie.Need-in-millimetres-requires
-in-millimetres-requires c κs = search needs
-
 returns : tie.Need-returns
 returns c = rw (c .in-millimetres .ensures, c .before .minus .ensures)
 
 pub lever-arm-spec : {M : Type 1} → statement M
-lever-arm-spec = tie.close (tie.spec minus-requires in-millimetres-requires returns)
+lever-arm-spec = tie.close (tie.spec (λ c κs. search needs) (λ c κs. search needs) returns)

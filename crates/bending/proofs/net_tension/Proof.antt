@@ -5,20 +5,11 @@ use Rattle.bending.proofs.Tests.{deep-tension}
 use Rattle.bending.proofs.net_tension.Statement.{statement}
 use Rattle.bending.proofs.net_tension.Tie as tie
 
-tension-force-requires : tie.Need-tension-force-requires
-tension-force-requires c κs = search needs
-
-compression-force-requires : tie.Need-compression-force-requires
-compression-force-requires c κs = search needs
-
 sub-result : tie.Need-sub-result
 sub-result c =
     let s = c .before .before in
     omega (arith, deep-tension (s .pre .0) (s .pre .1))
 
-returns : tie.Need-returns
-returns c = search needs
-
 pub net-tension-spec : {M : Type 1} → statement M
 net-tension-spec =
-    tie.close (tie.spec tension-force-requires compression-force-requires sub-result returns)
+    tie.close (tie.spec (λ c κs. search needs) (λ c κs. search needs) sub-result (λ c. search needs))

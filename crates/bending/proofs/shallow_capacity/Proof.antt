@@ -6,17 +6,8 @@ use Rattle.bending.proofs.Bounds.{sizes}
 use Rattle.bending.proofs.shallow_capacity.Statement.{statement}
 use Rattle.bending.proofs.shallow_capacity.Tie as tie
 
-tension-force-requires : tie.Need-tension-force-requires
-tension-force-requires c κs = search needs
-
-lever-arm-requires : tie.Need-lever-arm-requires
-lever-arm-requires c κs = search needs
-
 mul-div-down : tie.Need-mul-div-down
 mul-div-down c = rw (c .before .tension-force .ensures, c .lever-arm .ensures) (omega (arith, sizes (c .before .before .pre)))
-
-div-down-requires : tie.Need-div-down-requires
-div-down-requires c κs = search needs
 
 returns : tie.Need-returns
 unfolding shallowCapacity
@@ -25,4 +16,4 @@ returns c = rw (c .div-down .ensures, c .before .lever-arm .ensures, c .before .
 pub shallow-capacity-spec : {M : Type 1} → statement M
 shallow-capacity-spec =
     tie.close
-    (tie.spec tension-force-requires lever-arm-requires mul-div-down div-down-requires returns)
+    (tie.spec (λ c κs. search needs) (λ c κs. search needs) mul-div-down (λ c κs. search needs) returns)

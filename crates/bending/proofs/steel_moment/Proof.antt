@@ -5,22 +5,10 @@ use Rattle.bending.proofs.Capacity.{steel-most}
 use Rattle.bending.proofs.steel_moment.Statement.{statement}
 use Rattle.bending.proofs.steel_moment.Tie as tie
 
-net-tension-requires : tie.Need-net-tension-requires
-net-tension-requires c κs = search needs
-
-in-millimetres-requires : tie.Need-in-millimetres-requires
-in-millimetres-requires c κs = search needs
-
 mul-result : tie.Need-mul-result
 mul-result c =
     let s = c .before .before in
     rw (c .before .net-tension .ensures, c .in-millimetres .ensures) (omega (arith, steel-most (s .pre .0) (s .pre .1)))
-
-compression-force-requires : tie.Need-compression-force-requires
-compression-force-requires c κs = search needs
-
-lever-arm-requires : tie.Need-lever-arm-requires
-lever-arm-requires c κs = search needs
 
 mul-result-2 : tie.Need-mul-result-2
 mul-result-2 c =
@@ -42,11 +30,11 @@ pub steel-moment-spec : {M : Type 1} → statement M
 steel-moment-spec =
     tie.close
     (tie.spec
-    net-tension-requires
-    in-millimetres-requires
+    (λ c κs. search needs)
+    (λ c κs. search needs)
     mul-result
-    compression-force-requires
-    lever-arm-requires
+    (λ c κs. search needs)
+    (λ c κs. search needs)
     mul-result-2
     add-result
     returns)

@@ -9,9 +9,6 @@ use borrow.Author.Needs.{needs}
 use Rattle.built.proofs.beam_verdict.Statement.{statement}
 use Rattle.built.proofs.beam_verdict.Tie as tie
 
-beam-of-requires : tie.Need-beam-of-requires
-beam-of-requires c κs = search needs
-
 beam-relation-requires : tie.Need-beam-relation-requires
 beam-relation-requires c κs = beam-in-range-of _ (c .beam-of .ensures) (c .before .pre)
 
@@ -58,7 +55,7 @@ pub beam-verdict-spec : {M : Type 1} → statement M
 beam-verdict-spec =
     tie.close
     (tie.spec
-    beam-of-requires
+    (λ c κs. search needs)
     beam-relation-requires
     beam-bars-requires
     beam-ratio-requires

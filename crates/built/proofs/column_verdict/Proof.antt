@@ -8,12 +8,6 @@ use borrow.Author.Needs.{needs}
 use Rattle.built.proofs.column_verdict.Statement.{statement}
 use Rattle.built.proofs.column_verdict.Tie as tie
 
-column-of-requires : tie.Need-column-of-requires
-column-of-requires c κs = search needs
-
-column-relation-requires : tie.Need-column-relation-requires
-column-relation-requires c κs = search needs
-
 column-bars-requires : tie.Need-column-bars-requires
 column-bars-requires c κs = let s = c .before .before in column-groups-of _ (s .before .pre) (s .column-of .ensures)
 
@@ -44,8 +38,8 @@ pub column-verdict-spec : {M : Type 1} → statement M
 column-verdict-spec =
     tie.close
     (tie.spec
-    column-of-requires
-    column-relation-requires
+    (λ c κs. search needs)
+    (λ c κs. search needs)
     column-bars-requires
     returns
     returns-2

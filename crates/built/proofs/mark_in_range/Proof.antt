@@ -4,12 +4,9 @@ use borrow.Author.Needs.{needs}
 use Rattle.built.proofs.mark_in_range.Statement.{statement}
 use Rattle.built.proofs.mark_in_range.Tie as tie
 
-is-between-requires : tie.Need-is-between-requires
-is-between-requires c κs = search needs
-
 returns : tie.Need-returns
 unfolding markInRange
 returns c = c .is-between .ensures
 
 pub mark-in-range-spec : {M : Type 1} → statement M
-mark-in-range-spec = tie.close (tie.spec is-between-requires returns)
+mark-in-range-spec = tie.close (tie.spec (λ c κs. search needs) returns)

@@ -6,12 +6,6 @@ use borrow.Author.Needs.{needs}
 use Rattle.built.proofs.mesh_verdict.Statement.{statement}
 use Rattle.built.proofs.mesh_verdict.Tie as tie
 
-mesh-of-requires : tie.Need-mesh-of-requires
-mesh-of-requires c κs = search needs
-
-mesh-relation-requires : tie.Need-mesh-relation-requires
-mesh-relation-requires c κs = search needs
-
 returns : tie.Need-returns
 unfolding meshVerdict
 returns c = let j = c .before in rw (said meshRelation (j .before .mesh-of .ensures) (j .mesh-relation .ensures) (c .if1 .taken))
@@ -21,4 +15,4 @@ unfolding meshVerdict
 returns-2 c = let j = c .before in rw (said meshRelation (j .before .mesh-of .ensures) (j .mesh-relation .ensures) (c .if1 .left))
 
 pub mesh-verdict-spec : {M : Type 1} → statement M
-mesh-verdict-spec = tie.close (tie.spec mesh-of-requires mesh-relation-requires returns returns-2)
+mesh-verdict-spec = tie.close (tie.spec (λ c κs. search needs) (λ c κs. search needs) returns returns-2)

@@ -6,28 +6,13 @@ use borrow.Author.Needs.{needs}
 use Rattle.column.proofs.check_axial.Statement.{statement}
 use Rattle.column.proofs.check_axial.Tie as tie
 
-axial-capacity-requires : tie.Need-axial-capacity-requires
-axial-capacity-requires c κs = search needs
-
-in-newtons-requires : tie.Need-in-newtons-requires
-in-newtons-requires c κs = search needs
-
-in-newtons-requires-2 : tie.Need-in-newtons-requires-2
-in-newtons-requires-2 c κs = search needs
-
-reached-requires : tie.Need-reached-requires
-reached-requires c κs = search needs
-
-reached-requires-2 : tie.Need-reached-requires-2
-reached-requires-2 c κs = search needs
-
 returns : tie.Need-returns
 unfolding axialOutcome
 returns c =
     let k = c .before .before in
     let n = k .before .in-newtons .ensures ∙ k .before .before .axial-capacity .ensures in
     let fits = rw (k .in-newtons2 .ensures, n) at (c .before .if1 .taken) in
-    rw (le-leb _ _ fits, c .reached .ensures, n)
+    rw (le-leb _ _ fits, c .one-figure .ensures, n)
 
 returns-2 : tie.Need-returns-2
 unfolding axialOutcome
@@ -35,16 +20,16 @@ returns-2 c =
     let k = c .before .before in
     let n = k .before .in-newtons .ensures ∙ k .before .before .axial-capacity .ensures in
     let short = rw (k .in-newtons2 .ensures, n) at (c .before .if1 .left) in
-    rw (lt-leb _ _ short, c .reached2 .ensures, n)
+    rw (lt-leb _ _ short, c .one-figure2 .ensures, n)
 
 pub check-axial-spec : {M : Type 1} → statement M
 check-axial-spec =
     tie.close
     (tie.spec
-    axial-capacity-requires
-    in-newtons-requires
-    in-newtons-requires-2
-    reached-requires
-    reached-requires-2
+    (λ c κs. search needs)
+    (λ c κs. search needs)
+    (λ c κs. search needs)
+    (λ c κs. search needs)
+    (λ c κs. search needs)
     returns
     returns-2)

@@ -4,12 +4,6 @@ use borrow.Author.Needs.{needs}
 use Rattle.column.proofs.check_column.Statement.{statement}
 use Rattle.column.proofs.check_column.Tie as tie
 
-concrete-of-requires : tie.Need-concrete-of-requires
-concrete-of-requires c κs = search needs
-
-steel-of-requires : tie.Need-steel-of-requires
-steel-of-requires c κs = search needs
-
 check-with-requires : tie.Need-check-with-requires
 check-with-requires c κs =
     let a = c .before .before .pre in
@@ -24,4 +18,4 @@ returns c = rw (← c .before .before .concrete-of .ensures, ← c .before .stee
 
 pub check-column-spec : {M : Type 1} → statement M
 check-column-spec =
-    tie.close (tie.spec concrete-of-requires steel-of-requires check-with-requires returns)
+    tie.close (tie.spec (λ c κs. search needs) (λ c κs. search needs) check-with-requires returns)

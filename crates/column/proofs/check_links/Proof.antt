@@ -4,24 +4,15 @@ use borrow.Author.Needs.{needs}
 use Rattle.column.proofs.check_links.Statement.{statement}
 use Rattle.column.proofs.check_links.Tie as tie
 
-links-fit-requires : tie.Need-links-fit-requires
-links-fit-requires c κs = search needs
-
-check-slenderness-requires : tie.Need-check-slenderness-requires
-check-slenderness-requires c κs = search needs
-
-stop-requires : tie.Need-stop-requires
-stop-requires c κs = search needs
-
 returns : tie.Need-returns
 unfolding linksOutcome
 returns c = rw (← c .before .before .links-fit .ensures, c .before .if1 .taken) (c .check-slenderness .ensures)
 
 returns-2 : tie.Need-returns-2
 unfolding linksOutcome
-returns-2 c = rw (← c .before .before .links-fit .ensures, c .before .if1 .left) (c .stop .ensures)
+returns-2 c = rw (← c .before .before .links-fit .ensures, c .before .if1 .left) (c .no-figure .ensures)
 
 pub check-links-spec : {M : Type 1} → statement M
 check-links-spec =
     tie.close
-    (tie.spec links-fit-requires check-slenderness-requires stop-requires returns returns-2)
+    (tie.spec (λ c κs. search needs) (λ c κs. search needs) (λ c κs. search needs) returns returns-2)

@@ -5,16 +5,10 @@ use borrow.Author.Needs.{needs}
 use Rattle.column.proofs.check_slenderness.Statement.{statement}
 use Rattle.column.proofs.check_slenderness.Tie as tie
 
-slenderness-fits-requires : tie.Need-slenderness-fits-requires
-slenderness-fits-requires c κs = search needs
-
 check-axial-requires : tie.Need-check-axial-requires
 check-axial-requires c κs =
     let p = c .before .before .pre in
     (p .0, p .1, sym (c .before .slenderness-fits .ensures) ∙ c .if1 .taken)
-
-stop-requires : tie.Need-stop-requires
-stop-requires c κs = search needs
 
 returns : tie.Need-returns
 unfolding slendernessOutcome
@@ -22,9 +16,9 @@ returns c = rw (← c .before .before .slenderness-fits .ensures, c .before .if1
 
 returns-2 : tie.Need-returns-2
 unfolding slendernessOutcome
-returns-2 c = rw (← c .before .before .slenderness-fits .ensures, c .before .if1 .left) (c .stop .ensures)
+returns-2 c = rw (← c .before .before .slenderness-fits .ensures, c .before .if1 .left) (c .no-figure .ensures)
 
 pub check-slenderness-spec : {M : Type 1} → statement M
 check-slenderness-spec =
     tie.close
-    (tie.spec slenderness-fits-requires check-axial-requires stop-requires returns returns-2)
+    (tie.spec (λ c κs. search needs) check-axial-requires (λ c κs. search needs) returns returns-2)

@@ -5,14 +5,8 @@ use borrow.Author.Needs.{needs}
 use Rattle.column.proofs.check_with.Statement.{statement}
 use Rattle.column.proofs.check_with.Tie as tie
 
-steel-fits-requires : tie.Need-steel-fits-requires
-steel-fits-requires c κs = search needs
-
 check-links-requires : tie.Need-check-links-requires
 check-links-requires c κs = (c .before .before .pre, sym (c .before .steel-fits .ensures) ∙ c .if1 .taken)
-
-stop-requires : tie.Need-stop-requires
-stop-requires c κs = search needs
 
 returns : tie.Need-returns
 unfolding columnOutcome
@@ -20,8 +14,8 @@ returns c = rw (← c .before .before .steel-fits .ensures, c .before .if1 .take
 
 returns-2 : tie.Need-returns-2
 unfolding columnOutcome
-returns-2 c = rw (← c .before .before .steel-fits .ensures, c .before .if1 .left) (c .stop .ensures)
+returns-2 c = rw (← c .before .before .steel-fits .ensures, c .before .if1 .left) (c .no-figure .ensures)
 
 pub check-with-spec : {M : Type 1} → statement M
 check-with-spec =
-    tie.close (tie.spec steel-fits-requires check-links-requires stop-requires returns returns-2)
+    tie.close (tie.spec (λ c κs. search needs) check-links-requires (λ c κs. search needs) returns returns-2)

@@ -7,34 +7,10 @@ use borrow.Author.Needs.{needs}
 use Rattle.column.proofs.links_fit.Statement.{statement}
 use Rattle.column.proofs.links_fit.Tie as tie
 
-in-millimetres-requires : tie.Need-in-millimetres-requires
-in-millimetres-requires c κs = search needs
-
-totals-of-requires : tie.Need-totals-of-requires
-totals-of-requires c κs = search needs
-
-cast-quarter : tie.Need-cast-quarter
-cast-quarter c = search needs
-
-mul-quarter : tie.Need-mul-quarter
-mul-quarter c = search needs
-
 mul-spaced : tie.Need-mul-spaced
 mul-spaced c =
     let t = c .before .before .before in
     rw (t .totals-of .ensures .smallest-is) (omega (arith, smallest-most (columnOf (t .before .before .before .args .x) .groups)))
-
-in-millimetres-requires-2 : tie.Need-in-millimetres-requires-2
-in-millimetres-requires-2 c κs = search needs
-
-both-requires : tie.Need-both-requires
-both-requires c κs = search needs
-
-both-requires-2 : tie.Need-both-requires-2
-both-requires-2 c κs = search needs
-
-both-requires-3 : tie.Need-both-requires-3
-both-requires-3 c κs = search needs
 
 returns : tie.Need-returns
 unfolding linksFit
@@ -47,13 +23,13 @@ pub links-fit-spec : {M : Type 1} → statement M
 links-fit-spec =
     tie.close
     (tie.spec
-    in-millimetres-requires
-    totals-of-requires
-    cast-quarter
-    mul-quarter
+    (λ c κs. search needs)
+    (λ c κs. search needs)
+    (λ c. search needs)
+    (λ c. search needs)
     mul-spaced
-    in-millimetres-requires-2
-    both-requires
-    both-requires-2
-    both-requires-3
+    (λ c κs. search needs)
+    (λ c κs. search needs)
+    (λ c κs. search needs)
+    (λ c κs. search needs)
     returns)

@@ -19,43 +19,22 @@ printed : (c : tie.After-print-schedule) →
     (n ≤ length out) × (n ≡ length (take n out))
 printed c = within _ _ _ _ (c .print-schedule .ensures) (omega arith)
 
-slice-aggregate-print-schedule : tie.Need-slice-aggregate-print-schedule
-slice-aggregate-print-schedule c = search needs
-
-print-schedule-requires : tie.Need-print-schedule-requires
-print-schedule-requires c κs = search needs
-
 array-share-prefix-out : tie.Need-array-share-prefix-out
 array-share-prefix-out c = printed (c .before) .0
 
 slice-aggregate-write-all : tie.Need-slice-aggregate-write-all
 slice-aggregate-write-all c = printed (c .before .before) .1
 
-write-all-requires : tie.Need-write-all-requires
-write-all-requires c κs = search needs
-
-slice-aggregate-write-all-2 : tie.Need-slice-aggregate-write-all-2
-slice-aggregate-write-all-2 c = search needs
-
-write-all-requires-2 : tie.Need-write-all-requires-2
-write-all-requires-2 c κs = search needs
-
-returns : tie.Need-returns
-returns c = search needs
-
-returns-2 : tie.Need-returns-2
-returns-2 c = search needs
-
 pub print-output-spec : {M : Type 1} → statement M
 print-output-spec =
     tie.close
     (tie.spec
-    slice-aggregate-print-schedule
-    print-schedule-requires
+    (λ c. search needs)
+    (λ c κs. search needs)
     array-share-prefix-out
     slice-aggregate-write-all
-    write-all-requires
-    slice-aggregate-write-all-2
-    write-all-requires-2
-    returns
-    returns-2)
+    (λ c κs. search needs)
+    (λ c. search needs)
+    (λ c κs. search needs)
+    (λ c. search needs)
+    (λ c. search needs))

@@ -1,24 +1,26 @@
 -- `cracking::crack_width` meets its contract.
+use native.Mathlib.Omega.{arith}
+use Rattle.section.specs.Section.{W, S, E, D}
+use Rattle.section.specs.Section as section
 use Rattle.cracking.specs.Steps.{crackWidth}
+use Rattle.cracking.proofs.Bounds.{spacing-most}
 use borrow.Author.Needs.{needs}
 use Rattle.cracking.proofs.crack_width.Statement.{statement}
 use Rattle.cracking.proofs.crack_width.Tie as tie
 
-weighted-area-requires : tie.Need-weighted-area-requires
-weighted-area-requires c κs = search needs
-
-crack-spacing-of-requires : tie.Need-crack-spacing-of-requires
-crack-spacing-of-requires c κs = search needs
-
 width-of-requires : tie.Need-width-of-requires
-width-of-requires c κs = search needs
+width-of-requires c κs =
+    let s = c .before .before in
+    let x = s .args .x in
+    let a = s .pre .0 in
+    (s .pre .3, rw (c .crack-spacing-of .ensures, c .before .weighted-area .ensures) (spacing-most (section.c x) (E x) (W x) (D x) (S x) (a .D-least) (a .S-least) (omega arith) (a .E-most)))
 
 returns : tie.Need-returns
 unfolding crackWidth
 returns c =
     let k = c .before .before in
-    rw (c .width-of .ensures, c .before .crack-spacing-of .ensures .0, k .weighted-area .ensures .0, k .before .pre .2)
+    rw (c .width-of .ensures, c .before .crack-spacing-of .ensures, k .weighted-area .ensures, k .before .pre .2)
 
 pub crack-width-spec : {M : Type 1} → statement M
 crack-width-spec =
-    tie.close (tie.spec weighted-area-requires crack-spacing-of-requires width-of-requires returns)
+    tie.close (tie.spec (λ c κs. search needs) (λ c κs. search needs) width-of-requires returns)

@@ -8,12 +8,6 @@ use borrow.Author.Needs.{needs}
 use Rattle.cracking.proofs.steel_stress_of.Statement.{statement}
 use Rattle.cracking.proofs.steel_stress_of.Tie as tie
 
-mul-div-up : tie.Need-mul-div-up
-mul-div-up c = search needs
-
-mul-div-up-2 : tie.Need-mul-div-up-2
-mul-div-up-2 c = search needs
-
 mul-div-up-3 : tie.Need-mul-div-up-3
 mul-div-up-3 c = omega (arith, product-most (87 * c .args .h0) (c .args .s) 174000 800000 (omega arith))
 
@@ -26,4 +20,4 @@ returns c = c .div-up .ensures
 
 pub steel-stress-of-spec : {M : Type 1} → statement M
 steel-stress-of-spec =
-    tie.close (tie.spec mul-div-up mul-div-up-2 mul-div-up-3 div-up-requires returns)
+    tie.close (tie.spec (λ c. search needs) (λ c. search needs) mul-div-up-3 div-up-requires returns)

@@ -7,18 +7,12 @@ use borrow.Author.Needs.{needs}
 use Rattle.cracking.proofs.stiffening_of.Statement.{statement}
 use Rattle.cracking.proofs.stiffening_of.Tie as tie
 
-mul-div-down : tie.Need-mul-div-down
-mul-div-down c = search needs
-
 mul-div-down-2 : tie.Need-mul-div-down-2
 mul-div-down-2 c = omega (arith, product-most (325 * c .args .ftk) (c .args .w) 130000 10000000 (omega arith))
-
-div-down-requires : tie.Need-div-down-requires
-div-down-requires c κs = search needs
 
 returns : tie.Need-returns
 unfolding stiffening
 returns c = c .div-down .ensures
 
 pub stiffening-of-spec : {M : Type 1} → statement M
-stiffening-of-spec = tie.close (tie.spec mul-div-down mul-div-down-2 div-down-requires returns)
+stiffening-of-spec = tie.close (tie.spec (λ c. search needs) mul-div-down-2 (λ c κs. search needs) returns)

@@ -7,15 +7,6 @@ use borrow.Author.Needs.{needs}
 use Rattle.cracking.proofs.stress_holds.Statement.{statement}
 use Rattle.cracking.proofs.stress_holds.Tie as tie
 
-mul-result : tie.Need-mul-result
-mul-result c = search needs
-
-in-units-requires : tie.Need-in-units-requires
-in-units-requires c κs = search needs
-
-mul-result-2 : tie.Need-mul-result-2
-mul-result-2 c = search needs
-
 mul-result-3 : tie.Need-mul-result-3
 mul-result-3 c =
     omega (arith, product-most (87 * c .before .in-units .result) (c .before .before .before .args .x .depth .0) 52200 2000 (omega arith))
@@ -37,4 +28,4 @@ returns c = rw (c .before .before .in-units .ensures)
 pub stress-holds-spec : {M : Type 1} → statement M
 stress-holds-spec =
     tie.close
-    (tie.spec mul-result in-units-requires mul-result-2 mul-result-3 mul-result-4 returns)
+    (tie.spec (λ c. search needs) (λ c κs. search needs) (λ c. search needs) mul-result-3 mul-result-4 returns)

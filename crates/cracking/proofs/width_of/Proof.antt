@@ -2,23 +2,18 @@
 use native.Mathlib.Omega.{arith}
 use Prim.Native.Nat.{_*_}
 use Rattle.quantity.proofs.Product.{product-most}
+use Rattle.cracking.specs.Bounds.{stressMost, spacingMost}
 use Rattle.cracking.specs.Steps.{widthOf}
 use borrow.Author.Needs.{needs}
 use Rattle.cracking.proofs.width_of.Statement.{statement}
 use Rattle.cracking.proofs.width_of.Tie as tie
 
-mul-div-up : tie.Need-mul-div-up
-mul-div-up c = search needs
-
 mul-div-up-2 : tie.Need-mul-div-up-2
-mul-div-up-2 c = omega (arith, product-most (19 * c .args .mean) (c .args .spacing) 114000000 212350 (omega arith))
-
-div-up-requires : tie.Need-div-up-requires
-div-up-requires c κs = search needs
+mul-div-up-2 c = omega (arith, product-most (19 * c .args .mean) (c .args .spacing) (19 * stressMost) spacingMost (omega arith))
 
 returns : tie.Need-returns
 unfolding widthOf
 returns c = c .div-up .ensures
 
 pub width-of-spec : {M : Type 1} → statement M
-width-of-spec = tie.close (tie.spec mul-div-up mul-div-up-2 div-up-requires returns)
+width-of-spec = tie.close (tie.spec (λ c. search needs) mul-div-up-2 (λ c κs. search needs) returns)

@@ -1,30 +1,33 @@
 -- `deflection::curvature_of` meets its contract.
+use Prim.Native.Nat.{_+_}
+use mathlib.Core.Path.{_≡_}
 use native.Mathlib.Omega.{arith}
 use Rattle.quantity.proofs.Product.{product-most}
-use Rattle.deflection.proofs.Sizes.{curvature-sized}
+use Rattle.cracking.specs.Bounds.{stressMost}
+use Rattle.deflection.specs.Bounds.{flexibilityMost}
+use Rattle.deflection.specs.Steps.{curvature}
+use Rattle.deflection.proofs.Bounds.{curvature-most}
 use borrow.Author.Needs.{needs}
 use Rattle.deflection.proofs.curvature_of.Statement.{statement}
 use Rattle.deflection.proofs.curvature_of.Tie as tie
 
-mul-div-up : tie.Need-mul-div-up
-mul-div-up c = search needs
-
-div-up-requires : tie.Need-div-up-requires
-div-up-requires c κs = search needs
-
 mul-div-up-2 : tie.Need-mul-div-up-2
-mul-div-up-2 c = omega (arith, product-most (c .before .args .z) (c .before .args .stress) 2082353 6000000 (omega arith))
+mul-div-up-2 c = omega (arith, product-most (c .before .args .z) (c .before .args .stress) flexibilityMost stressMost (omega arith))
 
-div-up-requires-2 : tie.Need-div-up-requires-2
-div-up-requires-2 c κs = search needs
+value : (c : tie.After-div-up2) → let a = c .before .before .args in c .before .div-up .result + c .div-up2 .result ≡ curvature (a .mean) (a .z) (a .stress)
+unfolding curvature
+value c = rw (c .before .div-up .ensures, c .div-up2 .ensures)
 
 add-result : tie.Need-add-result
-add-result c = omega (arith, curvature-sized _ _ _ _ _ (c .before .before .pre .0) (c .before .before .pre .1) (c .before .before .pre .2) (c .before .div-up .ensures) (c .div-up2 .ensures) .1)
+add-result c =
+    let a = c .before .before .args in
+    let p = c .before .before .pre in
+    omega (arith, value c, curvature-most (a .mean) (a .z) (a .stress) (p .0) (p .1) (p .2))
 
 returns : tie.Need-returns
-returns c = curvature-sized _ _ _ _ _ (c .before .before .pre .0) (c .before .before .pre .1) (c .before .before .pre .2) (c .before .div-up .ensures) (c .div-up2 .ensures)
+returns c = value c
 
 pub curvature-of-spec : {M : Type 1} → statement M
 curvature-of-spec =
     tie.close
-    (tie.spec mul-div-up div-up-requires mul-div-up-2 div-up-requires-2 add-result returns)
+    (tie.spec (λ c. search needs) (λ c κs. search needs) mul-div-up-2 (λ c κs. search needs) add-result returns)

@@ -1,8 +1,7 @@
 -- `domain::domain_asked` meets its contract.
 use Prim.Native.Nat.{ℕ, _<_}
 use mathlib.Core.Path.{_≡_, refl}
-use mathlib.Core.Bool.{true}
-use mathlib.Core.List.{List, [], _∷_}
+use mathlib.Core.List.{[], _∷_}
 use mathlib.Core.Logic.{inl, inr}
 use native.Mathlib.Omega.{arith}
 use types.Run.{OneOf}
@@ -10,7 +9,7 @@ use denote.Enum.Declared.{tagOf}
 use borrow.Author.Needs.{needs}
 use Rattle.domain.specs.declared.Domain.{Domain}
 use Rattle.domain.specs.declared.Domain.the-variants.{Range, ZeroOr, Bar, Grade, Steel, LinkSteel, GroupDiameter, GroupBars}
-use Rattle.domain.specs.Domain.{asked}
+use Rattle.domain.specs.Domain.{always, presence, asked}
 use Rattle.domain.proofs.Domain.{the-type}
 use Rattle.domain.proofs.domain_asked.Statement.{statement}
 use Rattle.domain.proofs.domain_asked.Tie as tie
@@ -24,28 +23,15 @@ below-six k (inr (inr (inr (inr (inl e))))) = omega arith
 below-six k (inr (inr (inr (inr (inr e))))) = omega arith
 
 -- the six variants before the groups'
-always : (d : Domain) (v : List ℕ) → tagOf the-type d < 6 → true ≡ asked d v
-unfolding asked
-always (Range lo hi) v h = refl
-always (ZeroOr lo hi) v h = refl
-always (Bar lo hi) v h = refl
-always Grade v h = refl
-always Steel v h = refl
-always LinkSteel v h = refl
-always (GroupDiameter count place) v h = absurd (omega arith)
-always (GroupBars count place) v h = absurd (omega arith)
-
-enum-known-d : tie.Need-enum-known-d
-enum-known-d c = search needs
-
-has-group-requires : tie.Need-has-group-requires
-has-group-requires c κs = search needs
-
-enum-known-d-2 : tie.Need-enum-known-d-2
-enum-known-d-2 c = search needs
-
-has-group-requires-2 : tie.Need-has-group-requires-2
-has-group-requires-2 c κs = search needs
+in-no-group : (d : Domain) → tagOf the-type d < 6 → presence d ≡ always
+in-no-group (Range lo hi) h = refl
+in-no-group (ZeroOr lo hi) h = refl
+in-no-group (Bar lo hi) h = refl
+in-no-group Grade h = refl
+in-no-group Steel h = refl
+in-no-group LinkSteel h = refl
+in-no-group (GroupDiameter count place) h = absurd (omega arith)
+in-no-group (GroupBars count place) h = absurd (omega arith)
 
 returns : tie.Need-returns
 unfolding asked
@@ -56,9 +42,10 @@ unfolding asked
 returns-2 c = rw (c .before .before .d2 .given .1) (c .has-group2 .ensures)
 
 returns-3 : tie.Need-returns-3
-returns-3 c = always (c .before .args .d) _ (below-six _ (c .match .keys3))
+unfolding asked
+returns-3 c = rw (in-no-group (c .before .args .d) (below-six _ (c .match .keys3)))
 
 pub domain-asked-spec : {M : Type 1} → statement M
 domain-asked-spec =
     tie.close
-    (tie.spec enum-known-d has-group-requires enum-known-d-2 has-group-requires-2 returns returns-2 returns-3)
+    (tie.spec (λ c. search needs) (λ c κs. search needs) (λ c. search needs) (λ c κs. search needs) returns returns-2 returns-3)

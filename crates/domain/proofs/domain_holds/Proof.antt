@@ -4,57 +4,6 @@ use borrow.Author.Needs.{needs}
 use Rattle.domain.proofs.domain_holds.Statement.{statement}
 use Rattle.domain.proofs.domain_holds.Tie as tie
 
-enum-known-d : tie.Need-enum-known-d
-enum-known-d c = search needs
-
-is-between-requires : tie.Need-is-between-requires
-is-between-requires c κs = search needs
-
-enum-known-d-2 : tie.Need-enum-known-d-2
-enum-known-d-2 c = search needs
-
-is-between-requires-2 : tie.Need-is-between-requires-2
-is-between-requires-2 c κs = search needs
-
-either-requires : tie.Need-either-requires
-either-requires c κs = search needs
-
-enum-known-d-3 : tie.Need-enum-known-d-3
-enum-known-d-3 c = search needs
-
-is-bar-requires : tie.Need-is-bar-requires
-is-bar-requires c κs = search needs
-
-enum-told : tie.Need-enum-told
-enum-told c = search needs
-
-is-grade-requires : tie.Need-is-grade-requires
-is-grade-requires c κs = search needs
-
-enum-told-2 : tie.Need-enum-told-2
-enum-told-2 c = search needs
-
-is-steel-requires : tie.Need-is-steel-requires
-is-steel-requires c κs = search needs
-
-enum-told-3 : tie.Need-enum-told-3
-enum-told-3 c = search needs
-
-is-link-steel-requires : tie.Need-is-link-steel-requires
-is-link-steel-requires c κs = search needs
-
-enum-told-4 : tie.Need-enum-told-4
-enum-told-4 c = search needs
-
-is-group-diameter-requires : tie.Need-is-group-diameter-requires
-is-group-diameter-requires c κs = search needs
-
-enum-told-5 : tie.Need-enum-told-5
-enum-told-5 c = search needs
-
-is-group-bars-requires : tie.Need-is-group-bars-requires
-is-group-bars-requires c κs = search needs
-
 returns : tie.Need-returns
 unfolding holds
 returns c = rw (c .before .before .d .given .1) (c .is-between .ensures)
@@ -91,23 +40,23 @@ pub domain-holds-spec : {M : Type 1} → statement M
 domain-holds-spec =
     tie.close
     (tie.spec
-    enum-known-d
-    is-between-requires
-    enum-known-d-2
-    is-between-requires-2
-    either-requires
-    enum-known-d-3
-    is-bar-requires
-    enum-told
-    is-grade-requires
-    enum-told-2
-    is-steel-requires
-    enum-told-3
-    is-link-steel-requires
-    enum-told-4
-    is-group-diameter-requires
-    enum-told-5
-    is-group-bars-requires
+    (λ c. search needs)
+    (λ c κs. search needs)
+    (λ c. search needs)
+    (λ c κs. search needs)
+    (λ c κs. search needs)
+    (λ c. search needs)
+    (λ c κs. search needs)
+    (λ c. search needs)
+    (λ c κs. search needs)
+    (λ c. search needs)
+    (λ c κs. search needs)
+    (λ c. search needs)
+    (λ c κs. search needs)
+    (λ c. search needs)
+    (λ c κs. search needs)
+    (λ c. search needs)
+    (λ c κs. search needs)
     returns
     returns-2
     returns-3

@@ -7,17 +7,8 @@ use borrow.Author.Needs.{needs}
 use Rattle.domain.proofs.has_group.Statement.{statement}
 use Rattle.domain.proofs.has_group.Tie as tie
 
-mul-result : tie.Need-mul-result
-mul-result c = search needs
-
-shared-slice-read-result : tie.Need-shared-slice-read-result
-shared-slice-read-result c = search needs
-
-returns : tie.Need-returns
-returns c = search needs
-
 returns-2 : tie.Need-returns-2
 returns-2 c = rw (List·getD-eq-default (c .before .before .args .v .now) 0 (c .if1 .left)) (sym (le-ltb (c .before .before .args .place) 0 zero-le))
 
 pub has-group-spec : {M : Type 1} → statement M
-has-group-spec = tie.close (tie.spec mul-result shared-slice-read-result returns returns-2)
+has-group-spec = tie.close (tie.spec (λ c. search needs) (λ c. search needs) (λ c. search needs) returns-2)

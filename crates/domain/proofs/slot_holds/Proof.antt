@@ -5,18 +5,6 @@ use borrow.Author.Needs.{needs}
 use Rattle.domain.proofs.slot_holds.Statement.{statement}
 use Rattle.domain.proofs.slot_holds.Tie as tie
 
-domain-asked-requires : tie.Need-domain-asked-requires
-domain-asked-requires c κs = search needs
-
-mul-domain-holds : tie.Need-mul-domain-holds
-mul-domain-holds c = search needs
-
-element-copy-out-domain-holds : tie.Need-element-copy-out-domain-holds
-element-copy-out-domain-holds c = search needs
-
-domain-holds-requires : tie.Need-domain-holds-requires
-domain-holds-requires c κs = search needs
-
 returns : tie.Need-returns
 unfolding fieldHolds
 returns c =
@@ -31,9 +19,9 @@ pub slot-holds-spec : {M : Type 1} → statement M
 slot-holds-spec =
     tie.close
     (tie.spec
-    domain-asked-requires
-    mul-domain-holds
-    element-copy-out-domain-holds
-    domain-holds-requires
+    (λ c κs. search needs)
+    (λ c. search needs)
+    (λ c. search needs)
+    (λ c κs. search needs)
     returns
     returns-2)

@@ -43,8 +43,10 @@ pub beam-field-spec : {M : Type 1} → statement M
 beam-field-spec =
     tie.close
     (tie.spec
+    (λ c. search needs)
     sub-group-field
     group-field-requires
+    (λ c. search needs)
     sub-group-field-2
     group-field-requires-2
     (λ c. search needs)

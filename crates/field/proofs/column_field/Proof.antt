@@ -29,6 +29,7 @@ pub column-field-spec : {M : Type 1} → statement M
 column-field-spec =
     tie.close
     (tie.spec
+    (λ c. search needs)
     sub-group-field
     group-field-requires
     (λ c. search needs)

@@ -4,12 +4,9 @@ use borrow.Author.Needs.{needs}
 use Rattle.field.proofs.is_known.Statement.{statement}
 use Rattle.field.proofs.is_known.Tie as tie
 
-is-between-requires : tie.Need-is-between-requires
-is-between-requires c κs = search needs
-
 returns : tie.Need-returns
 unfolding known
 returns c = c .is-between .ensures
 
 pub is-known-spec : {M : Type 1} → statement M
-is-known-spec = tie.close (tie.spec is-between-requires returns)
+is-known-spec = tie.close (tie.spec (λ c κs. search needs) returns)

@@ -4,18 +4,6 @@ use borrow.Author.Needs.{needs}
 use Rattle.governing.proofs.governing_of.Statement.{statement}
 use Rattle.governing.proofs.governing_of.Tie as tie
 
-include-requires : tie.Need-include-requires
-include-requires c κs = search needs
-
-include-requires-2 : tie.Need-include-requires-2
-include-requires-2 c κs = search needs
-
-include-requires-3 : tie.Need-include-requires-3
-include-requires-3 c κs = search needs
-
-include-requires-4 : tie.Need-include-requires-4
-include-requires-4 c κs = search needs
-
 returns : tie.Need-returns
 returns c =
     let s = c .before in
@@ -24,4 +12,4 @@ returns c =
 pub governing-of-spec : {M : Type 1} → statement M
 governing-of-spec =
     tie.close
-    (tie.spec include-requires include-requires-2 include-requires-3 include-requires-4 returns)
+    (tie.spec (λ c κs. search needs) (λ c κs. search needs) (λ c κs. search needs) (λ c κs. search needs) returns)

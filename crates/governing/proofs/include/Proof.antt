@@ -3,12 +3,6 @@ use borrow.Author.Needs.{needs}
 use Rattle.governing.proofs.include.Statement.{statement}
 use Rattle.governing.proofs.include.Tie as tie
 
-enum-known-g : tie.Need-enum-known-g
-enum-known-g c = search needs
-
-enum-told : tie.Need-enum-told
-enum-told c = search needs
-
 returns : tie.Need-returns
 returns c = rw (c .before .before .g .given .1, c .before .before .before .before .if1 .taken, c .if2 .taken)
 
@@ -18,8 +12,5 @@ returns-2 c = rw (c .before .before .g .given .1, c .before .before .before .bef
 returns-3 : tie.Need-returns-3
 returns-3 c = rw (c .enum-told .given .1, c .before .before .if1 .taken)
 
-returns-4 : tie.Need-returns-4
-returns-4 c = search needs
-
 pub include-spec : {M : Type 1} → statement M
-include-spec = tie.close (tie.spec enum-known-g enum-told returns returns-2 returns-3 returns-4)
+include-spec = tie.close (tie.spec (λ c. search needs) (λ c. search needs) returns returns-2 returns-3 (λ c. search needs))

@@ -43,6 +43,7 @@ use Rattle.lists.proofs.Copies.{Four, Copied, copies}
 use Rattle.lists.proofs.first_groups.Symbol as copied-def
 use Rattle.lists.proofs.first_groups.Symbol.{name as #lists·first-groups}
 use Rattle.lists.proofs.first_groups.Met as copied-thm
+use Rattle.field.specs.Fields.{kindOf}
 use Rattle.lent.specs.declared.Lent.{Lent}
 use Rattle.lent.specs.Lent.{lentMember, firstCount, secondCount}
 use Rattle.lent.specs.Slots.{builtOf}
@@ -97,10 +98,10 @@ module _ {M : Type 1} (𝓤 : URA M) (H : Heap 𝓤) (A : Atoms 𝓤) (W : Given
 
   -- how many groups the counts name
   abbrev n₁ : ℕ
-  n₁ = firstCount (x .kind) (x .fields .v)
+  n₁ = firstCount (kindOf (x .kind)) (x .fields .v)
 
   abbrev n₂ : ℕ
-  n₂ = secondCount (x .kind) (x .fields .v)
+  n₂ = secondCount (kindOf (x .kind)) (x .fields .v)
 
   abbrev κs : Lfts 2
   κs = (κ₁, (κ₂, tt))

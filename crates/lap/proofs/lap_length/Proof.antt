@@ -4,19 +4,10 @@ use borrow.Author.Needs.{needs}
 use Rattle.lap.proofs.lap_length.Statement.{statement}
 use Rattle.lap.proofs.lap_length.Tie as tie
 
-required-lap-requires : tie.Need-required-lap-requires
-required-lap-requires c κs = search needs
-
-div-up-requires : tie.Need-div-up-requires
-div-up-requires c κs = search needs
-
-of-millimetres-requires : tie.Need-of-millimetres-requires
-of-millimetres-requires c κs = search needs
-
 returns : tie.Need-returns
 unfolding lapLength
 returns c = rw (c .of-millimetres .ensures, c .before .div-up .ensures, c .before .before .required-lap .ensures)
 
 pub lap-length-spec : {M : Type 1} → statement M
 lap-length-spec =
-    tie.close (tie.spec required-lap-requires div-up-requires of-millimetres-requires returns)
+    tie.close (tie.spec (λ c κs. search needs) (λ c κs. search needs) (λ c κs. search needs) returns)

@@ -1,29 +1,27 @@
 -- `lap::required_lap` meets its contract.
+use Prim.Native.Nat.{_≤_}
+use native.Mathlib.Omega.{arith}
+use Rattle.member.specs.Member.{meshOf}
 use Rattle.lap.specs.Steps.{requiredLap}
+use Rattle.lap.proofs.Bounds.{tensionMost, tension-most}
 use borrow.Author.Needs.{needs}
 use Rattle.lap.proofs.required_lap.Statement.{statement}
 use Rattle.lap.proofs.required_lap.Tie as tie
 
-tension-lap-requires : tie.Need-tension-lap-requires
-tension-lap-requires c κs = search needs
+lap : (c : tie.After-tension-lap) → c .tension-lap .result ≤ tensionMost
+lap c = rw (c .tension-lap .ensures) (tension-most (meshOf (c .before .args .x)) (c .before .pre))
 
 mul-larger : tie.Need-mul-larger
-mul-larger c = search needs
-
-larger-requires : tie.Need-larger-requires
-larger-requires c κs = search needs
+mul-larger c = omega (arith, lap (c .before))
 
 mul-chosen : tie.Need-mul-chosen
-mul-chosen c = search needs
-
-chosen-requires : tie.Need-chosen-requires
-chosen-requires c κs = search needs
+mul-chosen c = omega (arith, lap (c .before .before))
 
 returns : tie.Need-returns
 unfolding requiredLap
-returns c = rw (c .chosen .ensures .0, c .before .larger .ensures, c .before .before .before .tension-lap .ensures .0)
+returns c = rw (c .chosen .ensures, c .before .larger .ensures, c .before .before .before .tension-lap .ensures)
 
 pub required-lap-spec : {M : Type 1} → statement M
 required-lap-spec =
     tie.close
-    (tie.spec tension-lap-requires mul-larger larger-requires mul-chosen chosen-requires returns)
+    (tie.spec (λ c κs. search needs) mul-larger (λ c κs. search needs) mul-chosen (λ c κs. search needs) returns)

@@ -1,64 +1,59 @@
 -- `lap::tension_lap` meets its contract.
+use Prim.Native.Nat.{_≤_}
 use native.Mathlib.Omega.{arith}
+use Rattle.member.specs.Member.{meshOf}
+use Rattle.anchorage.proofs.Bounds.{basicMost}
 use Rattle.lap.specs.Steps.{tensionLap}
+use Rattle.lap.proofs.Bounds.{row-most, parts}
 use borrow.Author.Needs.{needs}
 use Rattle.lap.proofs.tension_lap.Statement.{statement}
 use Rattle.lap.proofs.tension_lap.Tie as tie
 
-chosen-requires : tie.Need-chosen-requires
-chosen-requires c κs = search needs
-
-lap-row-requires : tie.Need-lap-row-requires
-lap-row-requires c κs = search needs
+sizes : (c : tie.After-chosen2) →
+    (c .before .before .before .before .chosen .result ≤ 300) × (c .before .before .basic-length .result ≤ basicMost) × (c .chosen2 .result ≤ 80)
+sizes c =
+    let k = c .before .before in
+    let s = k .before .before .before .before in
+    let p = parts (meshOf (s .args .x)) (s .pre) in (
+      rw (k .before .before .chosen .ensures) (p .least),
+      rw (k .basic-length .ensures, k .before .lap-row .ensures) (p .basic),
+      rw (c .chosen2 .ensures, c .before .in-millimetres .ensures) (p .thick),
+    )
 
 basic-length-requires : tie.Need-basic-length-requires
-basic-length-requires c κs = search needs
-
-in-millimetres-requires : tie.Need-in-millimetres-requires
-in-millimetres-requires c κs = search needs
-
-mul-chosen : tie.Need-mul-chosen
-mul-chosen c = search needs
-
-chosen-requires-2 : tie.Need-chosen-requires-2
-chosen-requires-2 c κs = search needs
+basic-length-requires c κs = let s = c .before .before .before in (s .pre, rw (c .lap-row .ensures) (row-most (s .args .x .lapping)))
 
 mul-larger : tie.Need-mul-larger
-mul-larger c = search needs
+mul-larger c = omega (arith, sizes c)
 
 mul-larger-2 : tie.Need-mul-larger-2
-mul-larger-2 c = search needs
-
-larger-requires : tie.Need-larger-requires
-larger-requires c κs = search needs
+mul-larger-2 c = omega (arith, sizes c)
 
 mul-result : tie.Need-mul-result
-mul-result c = search needs
+mul-result c = omega (arith, sizes (c .before))
 
 add-result : tie.Need-add-result
-add-result c = search needs
+add-result c = omega (arith, sizes (c .before))
 
 returns : tie.Need-returns
 unfolding tensionLap
 returns c =
-    let k = c .before .before .before in (
-      rw (c .larger .ensures, c .before .chosen2 .ensures .0, c .before .before .in-millimetres .ensures, k .basic-length .ensures .0, k .before .lap-row .ensures .0, k .before .before .chosen .ensures .0),
-      omega arith,
-    )
+    let k = c .before .before .before in
+    rw (c .larger .ensures, c .before .chosen2 .ensures, c .before .before .in-millimetres .ensures, k .basic-length .ensures, k .before .lap-row .ensures, k .before .before .chosen .ensures)
 
 pub tension-lap-spec : {M : Type 1} → statement M
 tension-lap-spec =
     tie.close
     (tie.spec
-    chosen-requires
-    lap-row-requires
+    (λ c κs. search needs)
+    (λ c κs. search needs)
     basic-length-requires
-    in-millimetres-requires
-    mul-chosen
-    chosen-requires-2
+    (λ c κs. search needs)
+    (λ c. search needs)
+    (λ c κs. search needs)
     mul-larger
     mul-larger-2
-    larger-requires
+    (λ c κs. search needs)
     mul-result
     add-result
     returns)

@@ -3,21 +3,6 @@ use borrow.Author.Needs.{needs}
 use Rattle.lent.proofs.beam_slots.Statement.{statement}
 use Rattle.lent.proofs.beam_slots.Tie as tie
 
-put-fields-requires : tie.Need-put-fields-requires
-put-fields-requires c κs = search needs
-
-put-groups-requires : tie.Need-put-groups-requires
-put-groups-requires c κs = search needs
-
-put-fields-requires-2 : tie.Need-put-fields-requires-2
-put-fields-requires-2 c κs = search needs
-
-put-groups-requires-2 : tie.Need-put-groups-requires-2
-put-groups-requires-2 c κs = search needs
-
-put-fields-requires-3 : tie.Need-put-fields-requires-3
-put-fields-requires-3 c κs = search needs
-
 returns : tie.Need-returns
 returns c =
     let c₄ = c .before in
@@ -29,9 +14,10 @@ pub beam-slots-spec : {M : Type 1} → statement M
 beam-slots-spec =
     tie.close
     (tie.spec
-    put-fields-requires
-    put-groups-requires
-    put-fields-requires-2
-    put-groups-requires-2
-    put-fields-requires-3
+    (λ c κs. search needs)
+    (λ c κs. search needs)
+    (λ c κs. search needs)
+    (λ c κs. search needs)
+    (λ c. search needs)
+    (λ c κs. search needs)
     returns)

@@ -3,11 +3,8 @@ use borrow.Author.Needs.{needs}
 use Rattle.lent.proofs.built_from.Statement.{statement}
 use Rattle.lent.proofs.built_from.Tie as tie
 
-slots-of-requires : tie.Need-slots-of-requires
-slots-of-requires c κs = search needs
-
 returns : tie.Need-returns
-returns c = rw (c .slots-of .ensures)
+returns c = rw (c .slots-of .ensures, c .before .kind-of .ensures)
 
 pub built-from-spec : {M : Type 1} → statement M
-built-from-spec = tie.close (tie.spec slots-of-requires returns)
+built-from-spec = tie.close (tie.spec (λ c κs. search needs) (λ c κs. search needs) returns)

@@ -18,29 +18,11 @@ abbrev μ-loop : tie.MeasureT-loop
 loop-holds : tie.Need-loop-holds Inv-loop μ-loop
 loop-holds c = (search needs, search needs, refl)
 
-mul-v : tie.Need-mul-v Inv-loop μ-loop
-mul-v c = search needs
-
 array-read-v : tie.Need-array-read-v Inv-loop μ-loop
 array-read-v c = omega (arith, c .before .loop .inv .1, c .loop-test .taken)
 
-mul-v-2 : tie.Need-mul-v-2 Inv-loop μ-loop
-mul-v-2 c = search needs
-
 array-write-v : tie.Need-array-write-v Inv-loop μ-loop
 array-write-v c = omega (arith, c .before .loop .inv .0, c .loop-test .taken)
-
-add-p : tie.Need-add-p Inv-loop μ-loop
-add-p c = search needs
-
-add-f : tie.Need-add-f Inv-loop μ-loop
-add-f c = search needs
-
-sub-left : tie.Need-sub-left Inv-loop μ-loop
-sub-left c = search needs
-
-loop-less : tie.Need-loop-less Inv-loop μ-loop
-loop-less c = search needs
 
 loop-again : tie.Need-loop-again Inv-loop μ-loop
 loop-again c =
@@ -59,13 +41,13 @@ put-fields-spec =
     Inv-loop
     μ-loop
     loop-holds
-    mul-v
+    (λ c. search needs)
     array-read-v
-    mul-v-2
+    (λ c. search needs)
     array-write-v
-    add-p
-    add-f
-    sub-left
-    loop-less
+    (λ c. search needs)
+    (λ c. search needs)
+    (λ c. search needs)
+    (λ c. search needs)
     loop-again
     returns)

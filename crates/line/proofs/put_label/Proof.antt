@@ -4,19 +4,10 @@ use borrow.Author.Needs.{needs}
 use Rattle.line.proofs.put_label.Statement.{statement}
 use Rattle.line.proofs.put_label.Tie as tie
 
-put-word-requires : tie.Need-put-word-requires
-put-word-requires c κs = search needs
-
-put-byte-requires : tie.Need-put-byte-requires
-put-byte-requires c κs = search needs
-
-same-length : tie.Need-same-length
-same-length c = search needs
-
 returns : tie.Need-returns
 returns c =
     let p = c .before .before in
     put-then (p .before .before .before .before .put-word .ensures) (p .put-byte .ensures)
 
 pub put-label-spec : {M : Type 1} → statement M
-put-label-spec = tie.close (tie.spec put-word-requires put-byte-requires same-length returns)
+put-label-spec = tie.close (tie.spec (λ c κs. search needs) (λ c κs. search needs) (λ c. search needs) returns)

@@ -4,30 +4,6 @@ use borrow.Author.Needs.{needs}
 use Rattle.line.proofs.put_line.Statement.{statement}
 use Rattle.line.proofs.put_line.Tie as tie
 
-put-number-requires : tie.Need-put-number-requires
-put-number-requires c κs = search needs
-
-name-of-requires : tie.Need-name-of-requires
-name-of-requires c κs = search needs
-
-put-label-requires : tie.Need-put-label-requires
-put-label-requires c κs = search needs
-
-put-figure-requires : tie.Need-put-figure-requires
-put-figure-requires c κs = search needs
-
-put-figure-requires-2 : tie.Need-put-figure-requires-2
-put-figure-requires-2 c κs = search needs
-
-put-figure-requires-3 : tie.Need-put-figure-requires-3
-put-figure-requires-3 c κs = search needs
-
-put-figure-requires-4 : tie.Need-put-figure-requires-4
-put-figure-requires-4 c κs = search needs
-
-same-length : tie.Need-same-length
-same-length c = search needs
-
 returns : tie.Need-returns
 returns c =
     let fourth = c .before .before in
@@ -46,12 +22,12 @@ pub put-line-spec : {M : Type 1} → statement M
 put-line-spec =
     tie.close
     (tie.spec
-    put-number-requires
-    name-of-requires
-    put-label-requires
-    put-figure-requires
-    put-figure-requires-2
-    put-figure-requires-3
-    put-figure-requires-4
-    same-length
+    (λ c κs. search needs)
+    (λ c κs. search needs)
+    (λ c κs. search needs)
+    (λ c κs. search needs)
+    (λ c κs. search needs)
+    (λ c κs. search needs)
+    (λ c κs. search needs)
+    (λ c. search needs)
     returns)

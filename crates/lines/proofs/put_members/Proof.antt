@@ -37,15 +37,6 @@ check-member-requires c κs =
     let r = c .before .before .take-member in
     member-was _ _ 0 _ _ (r .ensures) .accepted
 
-put-line-requires : tie.Need-put-line-requires Inv-loop μ-loop
-put-line-requires c κs = search needs
-
-sub-left : tie.Need-sub-left Inv-loop μ-loop
-sub-left c = search needs
-
-loop-less : tie.Need-loop-less Inv-loop μ-loop
-loop-less c = search needs
-
 loop-again : tie.Need-loop-again Inv-loop μ-loop
 loop-again c =
     let w = c .before .before in
@@ -79,9 +70,9 @@ put-members-spec =
     loop-holds
     take-member-requires
     check-member-requires
-    put-line-requires
-    sub-left
-    loop-less
+    (λ c κs. search needs)
+    (λ c. search needs)
+    (λ c. search needs)
     loop-again
     same-length
     returns)

@@ -5,24 +5,6 @@ use borrow.Author.Needs.{needs}
 use Rattle.material.proofs.concrete_of.Statement.{statement}
 use Rattle.material.proofs.concrete_of.Tie as tie
 
-grade-row-requires : tie.Need-grade-row-requires
-grade-row-requires c κs = search needs
-
-fc-at-requires : tie.Need-fc-at-requires
-fc-at-requires c κs = search needs
-
-ft-at-requires : tie.Need-ft-at-requires
-ft-at-requires c κs = search needs
-
-ftk-at-requires : tie.Need-ftk-at-requires
-ftk-at-requires c κs = search needs
-
-ec-at-requires : tie.Need-ec-at-requires
-ec-at-requires c κs = search needs
-
-concrete-row-requires : tie.Need-concrete-row-requires
-concrete-row-requires c κs = search needs
-
 returns : tie.Need-returns
 unfolding concreteOf
 returns c =
@@ -34,10 +16,10 @@ pub concrete-of-spec : {M : Type 1} → statement M
 concrete-of-spec =
     tie.close
     (tie.spec
-    grade-row-requires
-    fc-at-requires
-    ft-at-requires
-    ftk-at-requires
-    ec-at-requires
-    concrete-row-requires
+    (λ c κs. search needs)
+    (λ c κs. search needs)
+    (λ c κs. search needs)
+    (λ c κs. search needs)
+    (λ c κs. search needs)
+    (λ c κs. search needs)
     returns)

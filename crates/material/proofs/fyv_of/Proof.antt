@@ -5,15 +5,6 @@ use borrow.Author.Needs.{needs}
 use Rattle.material.proofs.fyv_of.Statement.{statement}
 use Rattle.material.proofs.fyv_of.Tie as tie
 
-of-units-requires : tie.Need-of-units-requires
-of-units-requires c κs = search needs
-
-of-units-requires-2 : tie.Need-of-units-requires-2
-of-units-requires-2 c κs = search needs
-
-of-units-requires-3 : tie.Need-of-units-requires-3
-of-units-requires-3 c κs = search needs
-
 returns : tie.Need-returns
 unfolding fyvOf
 returns c = rw (c .before .match .keys1) (c .of-units .ensures)
@@ -30,9 +21,9 @@ pub fyv-of-spec : {M : Type 1} → statement M
 fyv-of-spec =
     tie.close
     (tie.spec
-    of-units-requires
-    of-units-requires-2
-    of-units-requires-3
+    (λ c κs. search needs)
+    (λ c κs. search needs)
+    (λ c κs. search needs)
     returns
     returns-2
     returns-3)

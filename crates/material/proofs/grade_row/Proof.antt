@@ -8,9 +8,6 @@ use borrow.Author.Needs.{needs}
 use Rattle.material.proofs.grade_row.Statement.{statement}
 use Rattle.material.proofs.grade_row.Tie as tie
 
-is-grade-requires : tie.Need-is-grade-requires
-is-grade-requires c κs = search needs
-
 sub-result : tie.Need-sub-result
 sub-result c = omega (arith, grade-least (c .before .before .args .grade) (sym (c .before .is-grade .ensures) ∙ c .if1 .taken))
 
@@ -21,4 +18,4 @@ returns-2 : tie.Need-returns-2
 returns-2 c = sym (unlisted-place (c .before .before .args .grade) concretes (sym (c .before .is-grade .ensures) ∙ c .if1 .left))
 
 pub grade-row-spec : {M : Type 1} → statement M
-grade-row-spec = tie.close (tie.spec is-grade-requires sub-result returns returns-2)
+grade-row-spec = tie.close (tie.spec (λ c κs. search needs) sub-result returns returns-2)

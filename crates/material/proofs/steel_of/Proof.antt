@@ -5,15 +5,6 @@ use borrow.Author.Needs.{needs}
 use Rattle.material.proofs.steel_of.Statement.{statement}
 use Rattle.material.proofs.steel_of.Tie as tie
 
-steel-row-requires : tie.Need-steel-row-requires
-steel-row-requires c κs = search needs
-
-steel-row-requires-2 : tie.Need-steel-row-requires-2
-steel-row-requires-2 c κs = search needs
-
-steel-row-requires-3 : tie.Need-steel-row-requires-3
-steel-row-requires-3 c κs = search needs
-
 returns : tie.Need-returns
 unfolding steelOf
 returns c = rw (c .before .match .keys1) (c .steel-row .ensures)
@@ -32,9 +23,9 @@ pub steel-of-spec : {M : Type 1} → statement M
 steel-of-spec =
     tie.close
     (tie.spec
-    steel-row-requires
-    steel-row-requires-2
-    steel-row-requires-3
+    (λ c κs. search needs)
+    (λ c κs. search needs)
+    (λ c κs. search needs)
     returns
     returns-2
     returns-3)

@@ -5,11 +5,8 @@ use borrow.Author.Needs.{needs}
 use Rattle.member.proofs.effective_depth.Statement.{statement}
 use Rattle.member.proofs.effective_depth.Tie as tie
 
-minus-requires : tie.Need-minus-requires
-minus-requires c κs = search needs
-
 returns : tie.Need-returns
 returns c = ap (λ (l : Length). l .0) (c .minus .ensures)
 
 pub effective-depth-spec : {M : Type 1} → statement M
-effective-depth-spec = tie.close (tie.spec minus-requires returns)
+effective-depth-spec = tie.close (tie.spec (λ c κs. search needs) returns)

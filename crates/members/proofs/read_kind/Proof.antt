@@ -8,18 +8,6 @@ use borrow.Author.Needs.{needs}
 use Rattle.members.proofs.read_kind.Statement.{statement}
 use Rattle.members.proofs.read_kind.Tie as tie
 
-number-at-requires : tie.Need-number-at-requires
-number-at-requires c κs = search needs
-
-enum-known-q : tie.Need-enum-known-q
-enum-known-q c = search needs
-
-enum-known-x : tie.Need-enum-known-x
-enum-known-x c = search needs
-
-is-known-requires : tie.Need-is-known-requires
-is-known-requires c κs = search needs
-
 returns : tie.Need-returns
 unfolding kindAt
 returns c =
@@ -41,10 +29,10 @@ pub read-kind-spec : {M : Type 1} → statement M
 read-kind-spec =
     tie.close
     (tie.spec
-    number-at-requires
-    enum-known-q
-    enum-known-x
-    is-known-requires
+    (λ c κs. search needs)
+    (λ c. search needs)
+    (λ c. search needs)
+    (λ c κs. search needs)
     returns
     returns-2
     returns-3)

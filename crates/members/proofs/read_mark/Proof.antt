@@ -7,18 +7,6 @@ use borrow.Author.Needs.{needs}
 use Rattle.members.proofs.read_mark.Statement.{statement}
 use Rattle.members.proofs.read_mark.Tie as tie
 
-number-at-requires : tie.Need-number-at-requires
-number-at-requires c κs = search needs
-
-enum-known-q : tie.Need-enum-known-q
-enum-known-q c = search needs
-
-enum-known-x : tie.Need-enum-known-x
-enum-known-x c = search needs
-
-mark-rises-requires : tie.Need-mark-rises-requires
-mark-rises-requires c κs = search needs
-
 returns : tie.Need-returns
 unfolding markAt
 returns c =
@@ -40,10 +28,10 @@ pub read-mark-spec : {M : Type 1} → statement M
 read-mark-spec =
     tie.close
     (tie.spec
-    number-at-requires
-    enum-known-q
-    enum-known-x
-    mark-rises-requires
+    (λ c κs. search needs)
+    (λ c. search needs)
+    (λ c. search needs)
+    (λ c κs. search needs)
     returns
     returns-2
     returns-3)

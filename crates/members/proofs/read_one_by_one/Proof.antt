@@ -7,44 +7,32 @@ use borrow.Author.Needs.{needs}
 use Rattle.members.proofs.read_one_by_one.Statement.{statement}
 use Rattle.members.proofs.read_one_by_one.Tie as tie
 
-read-fields-requires : tie.Need-read-fields-requires
-read-fields-requires c κs = search needs
-
-enum-known-verdict : tie.Need-enum-known-verdict
-enum-known-verdict c = search needs
-
-refused-member-requires : tie.Need-refused-member-requires
-refused-member-requires c κs = search needs
-
-enum-told : tie.Need-enum-told
-enum-told c = search needs
-
 member-verdict-requires : tie.Need-member-verdict-requires
 member-verdict-requires c κs =
     let f = c .before .before .before .before .before in
-    let s = f .before .before in
-    (s .pre, fields-held _ _ _ _ _ (s .pre) (run-got _ _ (f .read-fields .ensures) (c .before .enum-told .given .1)))
+    fields-held _ _ _ _ _ (run-got _ _ (f .read-fields .ensures) (c .before .enum-told .given .1))
 
 returns : tie.Need-returns
 returns c =
     let v = c .before .before in
     let f = v .before .before .before .before in
-    c .refused-member .ensures ∙ sym (whole-no _ _ _ _ _ (run-no _ _ _ (f .read-fields .ensures) (v .verdict .given .1)))
+    c .refused-member .ensures ∙ sym (whole-no _ _ _ (f .before .kind-of .ensures) _ _ _ (run-no _ _ _ (f .read-fields .ensures) (v .verdict .given .1)))
 
 returns-2 : tie.Need-returns-2
 returns-2 c =
     let e = c .before in
     let f = e .before .before .before .before .before in
-    rw (c .member-verdict .ensures) (sym (whole-passed _ _ _ _ _ _ (run-got _ _ (f .read-fields .ensures) (e .before .enum-told .given .1))))
+    rw (c .member-verdict .ensures) (sym (whole-passed _ _ _ (f .before .kind-of .ensures) _ _ _ _ (run-got _ _ (f .read-fields .ensures) (e .before .enum-told .given .1))))
 
 pub read-one-by-one-spec : {M : Type 1} → statement M
 read-one-by-one-spec =
     tie.close
     (tie.spec
-    read-fields-requires
-    enum-known-verdict
-    refused-member-requires
-    enum-told
+    (λ c κs. search needs)
+    (λ c κs. search needs)
+    (λ c. search needs)
+    (λ c κs. search needs)
+    (λ c. search needs)
     member-verdict-requires
     returns
     returns-2)

@@ -6,21 +6,6 @@ use borrow.Author.Needs.{needs}
 use Rattle.mesh.proofs.check_mesh.Statement.{statement}
 use Rattle.mesh.proofs.check_mesh.Tie as tie
 
-anchorage-length-requires : tie.Need-anchorage-length-requires
-anchorage-length-requires c κs = search needs
-
-in-millimetres-requires : tie.Need-in-millimetres-requires
-in-millimetres-requires c κs = search needs
-
-in-millimetres-requires-2 : tie.Need-in-millimetres-requires-2
-in-millimetres-requires-2 c κs = search needs
-
-check-lap-requires : tie.Need-check-lap-requires
-check-lap-requires c κs = search needs
-
-in-millimetres-requires-3 : tie.Need-in-millimetres-requires-3
-in-millimetres-requires-3 c κs = search needs
-
 returns : tie.Need-returns
 unfolding meshOutcome
 returns c =
@@ -32,19 +17,20 @@ returns c =
 returns-2 : tie.Need-returns-2
 unfolding meshOutcome
 returns-2 c =
-    let k = c .before .before in
+    let k = c .before .before .before in
     let s = k .before .before in
-    let short = rw (k .before .in-millimetres .ensures ∙ s .anchorage-length .ensures, k .in-millimetres2 .ensures) at (c .before .if1 .left) in
-    rw (lt-leb _ _ short, c .in-millimetres3 .ensures, s .anchorage-length .ensures)
+    let short = rw (k .before .in-millimetres .ensures ∙ s .anchorage-length .ensures, k .in-millimetres2 .ensures) at (c .before .before .if1 .left) in
+    rw (lt-leb _ _ short, c .one-figure .ensures, c .before .in-millimetres3 .ensures, s .anchorage-length .ensures)
 
 pub check-mesh-spec : {M : Type 1} → statement M
 check-mesh-spec =
     tie.close
     (tie.spec
-    anchorage-length-requires
-    in-millimetres-requires
-    in-millimetres-requires-2
-    check-lap-requires
-    in-millimetres-requires-3
+    (λ c κs. search needs)
+    (λ c κs. search needs)
+    (λ c κs. search needs)
+    (λ c κs. search needs)
+    (λ c κs. search needs)
+    (λ c κs. search needs)
     returns
     returns-2)

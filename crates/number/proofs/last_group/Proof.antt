@@ -14,15 +14,6 @@ returns c =
     let z : s .args .b ≤ 0 = omega arith in
     simp (le-ltb _ _ z, ne-eqb (s .args .w) 1 (λ e. omega (arith, s .pre .0)))
 
-mul-value : tie.Need-mul-value
-mul-value c = search needs
-
-add-value : tie.Need-add-value
-add-value c = search needs
-
-cast-t10 : tie.Need-cast-t10
-cast-t10 c = search needs
-
 returns-2 : tie.Need-returns-2
 unfolding lastGroup
 returns-2 c =
@@ -36,4 +27,4 @@ returns-3 c =
     simp (lt-ltb _ _ z, le-ltb _ _ (c .if2 .left))
 
 pub last-group-spec : {M : Type 1} → statement M
-last-group-spec = tie.close (tie.spec returns mul-value add-value cast-t10 returns-2 returns-3)
+last-group-spec = tie.close (tie.spec returns (λ c. search needs) (λ c. search needs) (λ c. search needs) returns-2 returns-3)

@@ -39,15 +39,6 @@ returns c =
     let a = c .before .before in
     sym (a .loop .inv .4 ∙ file-ends _ _ _ _ _ (c .before .loop-test .taken) (c .if1 .taken))
 
-shared-slice-read-wide : tie.Need-shared-slice-read-wide Inv-loop μ-loop
-shared-slice-read-wide c = search needs
-
-wide-requires : tie.Need-wide-requires Inv-loop μ-loop
-wide-requires c κs = search needs
-
-add-last-group : tie.Need-add-last-group Inv-loop μ-loop
-add-last-group c = search needs
-
 last-group-requires : tie.Need-last-group-requires Inv-loop μ-loop
 last-group-requires c κs =
     let l = c .before .before .before .before .before .loop in
@@ -68,15 +59,6 @@ add-v c = omega (arith, sum c, top (c .before))
 
 mul-w : tie.Need-mul-w Inv-loop μ-loop
 mul-w c = omega (arith, top (c .before))
-
-add-p : tie.Need-add-p Inv-loop μ-loop
-add-p c = search needs
-
-sub-left : tie.Need-sub-left Inv-loop μ-loop
-sub-left c = search needs
-
-loop-less : tie.Need-loop-less Inv-loop μ-loop
-loop-less c = search needs
 
 loop-again : tie.Need-loop-again Inv-loop μ-loop
 loop-again c =
@@ -101,16 +83,16 @@ long-number-spec =
     μ-loop
     loop-holds
     returns
-    shared-slice-read-wide
-    wide-requires
-    add-last-group
+    (λ c. search needs)
+    (λ c κs. search needs)
+    (λ c. search needs)
     last-group-requires
     returns-2
     mul-v
     add-v
     mul-w
-    add-p
-    sub-left
-    loop-less
+    (λ c. search needs)
+    (λ c. search needs)
+    (λ c. search needs)
     loop-again
     returns-3)

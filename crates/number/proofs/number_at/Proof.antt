@@ -21,43 +21,16 @@ returns : tie.Need-returns
 unfolding numberAt
 returns c = sym (file-ends _ 5 _ _ _ (omega arith) (c .if1 .taken))
 
-shared-slice-read-wide : tie.Need-shared-slice-read-wide
-shared-slice-read-wide c = search needs
-
-wide-requires : tie.Need-wide-requires
-wide-requires c κs = search needs
-
-cast-t10 : tie.Need-cast-t10
-cast-t10 c = search needs
-
-add-t11 : tie.Need-add-t11
-add-t11 c = search needs
-
 returns-2 : tie.Need-returns-2
 unfolding numberAt
 returns-2 c =
     let w = c .before in
     sym (last-group-at _ 5 _ _ _ (omega arith) _ (w .wide .ensures) (w .before .before .if1 .left) (c .if2 .taken) ∙ only-group _ _ (c .if2 .taken))
 
-add-if3 : tie.Need-add-if3
-add-if3 c = search needs
-
 returns-3 : tie.Need-returns-3
 returns-3 c =
     let w = c .before .before in
     sym (from-second _ _ _ (w .wide .ensures) (w .before .before .if1 .left) (c .before .if2 .left) ∙ file-ends _ 4 _ _ _ (omega arith) (c .if3 .taken))
-
-add-wide : tie.Need-add-wide
-add-wide c = search needs
-
-shared-slice-read-wide-2 : tie.Need-shared-slice-read-wide-2
-shared-slice-read-wide-2 c = search needs
-
-wide-requires-2 : tie.Need-wide-requires-2
-wide-requires-2 c κs = search needs
-
-add-last-group : tie.Need-add-last-group
-add-last-group c = search needs
 
 last-group-requires : tie.Need-last-group-requires
 last-group-requires c κs = omega (arith, first-byte (c .before .before .before .before .before))
@@ -69,9 +42,6 @@ returns-4 c =
     let w = e .before .before in
     c .last-group .ensures
     ∙ sym (second-last _ _ _ (w .wide .ensures) (w .before .before .if1 .left) (e .before .if2 .left) _ (s .wide2 .ensures) (e .if3 .left) (c .before .if4 .taken))
-
-add-long-number : tie.Need-add-long-number
-add-long-number c = search needs
 
 mul-long-number : tie.Need-mul-long-number
 mul-long-number c = omega (arith, second-byte (c .before))
@@ -95,20 +65,20 @@ number-at-spec =
     tie.close
     (tie.spec
     returns
-    shared-slice-read-wide
-    wide-requires
-    cast-t10
-    add-t11
+    (λ c. search needs)
+    (λ c κs. search needs)
+    (λ c. search needs)
+    (λ c. search needs)
     returns-2
-    add-if3
+    (λ c. search needs)
     returns-3
-    add-wide
-    shared-slice-read-wide-2
-    wide-requires-2
-    add-last-group
+    (λ c. search needs)
+    (λ c. search needs)
+    (λ c κs. search needs)
+    (λ c. search needs)
     last-group-requires
     returns-4
-    add-long-number
+    (λ c. search needs)
     mul-long-number
     add-long-number-2
     long-number-requires

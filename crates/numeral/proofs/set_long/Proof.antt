@@ -9,26 +9,11 @@ use Rattle.numeral.proofs.Decimal.{decimal-myriad}
 use Rattle.numeral.proofs.set_long.Statement.{statement}
 use Rattle.numeral.proofs.set_long.Tie as tie
 
-set-medium-requires : tie.Need-set-medium-requires
-set-medium-requires c κs = search needs
-
-same-length : tie.Need-same-length
-same-length c = search needs
-
-returns : tie.Need-returns
-returns c = search needs
-
-set-medium-requires-2 : tie.Need-set-medium-requires-2
-set-medium-requires-2 c κs = search needs
-
 set-four-requires : tie.Need-set-four-requires
 set-four-requires c κs =
     let p = c .before .before .before in
     let v = p .before .before .before .before .args .v in
     (omega arith, put-room 4 4 (p .set-medium2 .ensures) (decimal-short 4 (v / 10000) (omega arith) (omega arith)) (omega arith))
-
-same-length-2 : tie.Need-same-length-2
-same-length-2 c = search needs
 
 returns-2 : tie.Need-returns-2
 returns-2 c =
@@ -40,10 +25,10 @@ pub set-long-spec : {M : Type 1} → statement M
 set-long-spec =
     tie.close
     (tie.spec
-    set-medium-requires
-    same-length
-    returns
-    set-medium-requires-2
+    (λ c κs. search needs)
+    (λ c. search needs)
+    (λ c. search needs)
+    (λ c κs. search needs)
     set-four-requires
-    same-length-2
+    (λ c. search needs)
     returns-2)

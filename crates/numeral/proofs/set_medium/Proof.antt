@@ -9,26 +9,11 @@ use Rattle.numeral.proofs.Decimal.{decimal-hundred}
 use Rattle.numeral.proofs.set_medium.Statement.{statement}
 use Rattle.numeral.proofs.set_medium.Tie as tie
 
-set-short-requires : tie.Need-set-short-requires
-set-short-requires c κs = search needs
-
-same-length : tie.Need-same-length
-same-length c = search needs
-
-returns : tie.Need-returns
-returns c = search needs
-
-set-short-requires-2 : tie.Need-set-short-requires-2
-set-short-requires-2 c κs = search needs
-
 set-two-requires : tie.Need-set-two-requires
 set-two-requires c κs =
     let p = c .before .before .before in
     let v = p .before .before .before .before .args .v in
     (omega arith, put-room 2 2 (p .set-short2 .ensures) (decimal-short 2 (v / 100) (omega arith) (omega arith)) (omega arith))
-
-same-length-2 : tie.Need-same-length-2
-same-length-2 c = search needs
 
 returns-2 : tie.Need-returns-2
 returns-2 c =
@@ -40,10 +25,10 @@ pub set-medium-spec : {M : Type 1} → statement M
 set-medium-spec =
     tie.close
     (tie.spec
-    set-short-requires
-    same-length
-    returns
-    set-short-requires-2
+    (λ c κs. search needs)
+    (λ c. search needs)
+    (λ c. search needs)
+    (λ c κs. search needs)
     set-two-requires
-    same-length-2
+    (λ c. search needs)
     returns-2)

@@ -7,28 +7,10 @@ use Rattle.numeral.proofs.Decimal.{decimal-pair}
 use Rattle.numeral.proofs.set_short.Statement.{statement}
 use Rattle.numeral.proofs.set_short.Tie as tie
 
-digit-requires : tie.Need-digit-requires
-digit-requires c κs = search needs
-
-slice-write-out : tie.Need-slice-write-out
-slice-write-out c = search needs
-
-add-result : tie.Need-add-result
-add-result c = search needs
-
-same-length : tie.Need-same-length
-same-length c = search needs
-
 returns : tie.Need-returns
 returns c =
     let s = c .before .before .before in
     rw (decimal-one (s .args .v) (omega arith)) (put-set (s .args .out .now) (search needs) (c .digit .ensures) (omega arith))
-
-set-two-requires : tie.Need-set-two-requires
-set-two-requires c κs = search needs
-
-same-length-2 : tie.Need-same-length-2
-same-length-2 c = search needs
 
 returns-2 : tie.Need-returns-2
 returns-2 c =
@@ -40,11 +22,11 @@ pub set-short-spec : {M : Type 1} → statement M
 set-short-spec =
     tie.close
     (tie.spec
-    digit-requires
-    slice-write-out
-    add-result
-    same-length
+    (λ c κs. search needs)
+    (λ c. search needs)
+    (λ c. search needs)
+    (λ c. search needs)
     returns
-    set-two-requires
-    same-length-2
+    (λ c κs. search needs)
+    (λ c. search needs)
     returns-2)

@@ -10,30 +10,9 @@ use Rattle.line.proofs.put_refusal.Reads as put-refusal-reads
 use Rattle.question.proofs.number_of.Reads as number-of-reads
 use Rattle.report.proofs.report.Reads as report-reads
 
-report-requires : tie.Need-report-requires
-report-requires c κs = search needs
-
-enum-known-n : tie.Need-enum-known-n
-enum-known-n c = search needs
-
-enum-known-r : tie.Need-enum-known-r
-enum-known-r c = search needs
-
-number-of-requires : tie.Need-number-of-requires
-number-of-requires c κs = search needs
-
-put-refusal-requires : tie.Need-put-refusal-requires
-put-refusal-requires c κs = search needs
-
-same-length : tie.Need-same-length
-same-length c = search needs
-
 returns : tie.Need-returns
 returns c =
     was-written _ _ _ _ _ (c .before .n .given .1) (omega arith) (c .before .before .before .before .before .report .ensures)
-
-same-length-2 : tie.Need-same-length-2
-same-length-2 c = search needs
 
 returns-2 : tie.Need-returns-2
 returns-2 c =
@@ -47,12 +26,12 @@ pub print-schedule-spec : {M : Type 1} → statement M
 print-schedule-spec =
     tie.close
     (tie.spec
-    report-requires
-    enum-known-n
-    enum-known-r
-    number-of-requires
-    put-refusal-requires
-    same-length
+    (λ c κs. search needs)
+    (λ c. search needs)
+    (λ c. search needs)
+    (λ c κs. search needs)
+    (λ c κs. search needs)
+    (λ c. search needs)
     returns
-    same-length-2
+    (λ c. search needs)
     returns-2)

@@ -5,12 +5,9 @@ use Rattle.quantity.specs.Rounding.{down}
 use Rattle.quantity.proofs.div_down.Statement.{statement}
 use Rattle.quantity.proofs.div_down.Tie as tie
 
-div-result : tie.Need-div-result
-div-result c = search needs
-
 returns : tie.Need-returns
 unfolding down
 returns c = refl
 
 pub div-down-spec : {M : Type 1} → statement M
-div-down-spec = tie.close (tie.spec div-result returns)
+div-down-spec = tie.close (tie.spec (λ c. search needs) returns)

@@ -7,9 +7,6 @@ use Rattle.quantity.proofs.Rounding.{up-by-more, up-by-same}
 use Rattle.quantity.proofs.div_up.Statement.{statement}
 use Rattle.quantity.proofs.div_up.Tie as tie
 
-div-q : tie.Need-div-q
-div-q c = search needs
-
 mul-if1 : tie.Need-mul-if1
 mul-if1 c = omega (arith, div-mul-le-self (c .args .n) (c .args .d))
 
@@ -23,4 +20,4 @@ returns-2 : tie.Need-returns-2
 returns-2 c = up-by-same (c .before .args .n) (c .before .args .d) (c .before .pre) (omega arith)
 
 pub div-up-spec : {M : Type 1} → statement M
-div-up-spec = tie.close (tie.spec div-q mul-if1 add-result returns returns-2)
+div-up-spec = tie.close (tie.spec (λ c. search needs) mul-if1 add-result returns returns-2)

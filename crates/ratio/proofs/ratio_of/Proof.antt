@@ -5,12 +5,6 @@ use borrow.Author.Needs.{needs}
 use Rattle.ratio.proofs.ratio_of.Statement.{statement}
 use Rattle.ratio.proofs.ratio_of.Tie as tie
 
-no-ratio-requires : tie.Need-no-ratio-requires
-no-ratio-requires c κs = search needs
-
-divided-requires : tie.Need-divided-requires
-divided-requires c κs = search needs
-
 returns : tie.Need-returns
 unfolding ratio
 returns c = rw (eq-eqb _ _ (c .before .if1 .taken)) (c .no-ratio .ensures)
@@ -20,4 +14,4 @@ unfolding ratio
 returns-2 c = rw (ne-eqb _ _ (c .before .if1 .left), c .divided .ensures)
 
 pub ratio-of-spec : {M : Type 1} → statement M
-ratio-of-spec = tie.close (tie.spec no-ratio-requires divided-requires returns returns-2)
+ratio-of-spec = tie.close (tie.spec (λ c κs. search needs) (λ c κs. search needs) returns returns-2)

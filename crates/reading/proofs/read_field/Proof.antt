@@ -7,18 +7,6 @@ use borrow.Author.Needs.{needs}
 use Rattle.reading.proofs.read_field.Statement.{statement}
 use Rattle.reading.proofs.read_field.Tie as tie
 
-number-at-requires : tie.Need-number-at-requires
-number-at-requires c κs = search needs
-
-enum-known-q : tie.Need-enum-known-q
-enum-known-q c = search needs
-
-enum-known-x : tie.Need-enum-known-x
-enum-known-x c = search needs
-
-domain-holds-requires : tie.Need-domain-holds-requires
-domain-holds-requires c κs = search needs
-
 returns : tie.Need-returns
 returns c = sym (number-refused Field (holds _) _ _ _ (sym (c .before .before .before .number-at .ensures) ∙ c .before .q .given .1))
 
@@ -36,10 +24,10 @@ pub read-field-spec : {M : Type 1} → statement M
 read-field-spec =
     tie.close
     (tie.spec
-    number-at-requires
-    enum-known-q
-    enum-known-x
-    domain-holds-requires
+    (λ c κs. search needs)
+    (λ c. search needs)
+    (λ c. search needs)
+    (λ c κs. search needs)
     returns
     returns-2
     returns-3)

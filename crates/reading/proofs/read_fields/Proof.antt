@@ -19,28 +19,11 @@ Inv-loop src at kind n v₀ p₀ i₀ v p i =
 abbrev μ-loop : tie.MeasureT-loop
 μ-loop src at kind n v₀ p₀ i₀ v p i = n - i
 
-field-count-requires : tie.Need-field-count-requires Inv-loop μ-loop
-field-count-requires c κs = search needs
-
 loop-holds : tie.Need-loop-holds Inv-loop μ-loop
-loop-holds c = let f = fields-fit _ (c .before .before .pre) in (search needs, search needs, refl, refl)
+loop-holds c = let f = fields-fit (c .before .before .args .kind) in (search needs, search needs, refl, refl)
 
 field-of-requires : tie.Need-field-of-requires Inv-loop μ-loop
-field-of-requires c κs =
-    let l = c .before in
-    (l .before .before .before .pre, omega (arith, l .loop .inv .0, c .loop-test .taken))
-
-domain-asked-requires : tie.Need-domain-asked-requires Inv-loop μ-loop
-domain-asked-requires c κs = search needs
-
-read-field-requires : tie.Need-read-field-requires Inv-loop μ-loop
-read-field-requires c κs = search needs
-
-enum-known-q : tie.Need-enum-known-q Inv-loop μ-loop
-enum-known-q c = search needs
-
-refused-run-requires : tie.Need-refused-run-requires Inv-loop μ-loop
-refused-run-requires c κs = search needs
+field-of-requires c κs = omega (arith, c .before .loop .inv .0, c .loop-test .taken)
 
 returns : tie.Need-returns Inv-loop μ-loop
 returns c =
@@ -54,21 +37,6 @@ returns c =
     c .refused-run .ensures
     ∙ ap runOf (sym (l .loop .inv .3 ∙ field-refused (fieldsOf (s .args .kind)) (s .args .src .now) (l .loop .p) (l .loop .i) (l .loop .v) h _ (d .field-of .ensures)
     (sym (a .domain-asked .ensures) ∙ r .before .if1 .taken) _ (r .read-field .ensures) _ (x .q .given .1)))
-
-enum-known-x : tie.Need-enum-known-x Inv-loop μ-loop
-enum-known-x c = search needs
-
-mul-v : tie.Need-mul-v Inv-loop μ-loop
-mul-v c = search needs
-
-array-write-v : tie.Need-array-write-v Inv-loop μ-loop
-array-write-v c = search needs
-
-add-i : tie.Need-add-i Inv-loop μ-loop
-add-i c = search needs
-
-loop-less : tie.Need-loop-less Inv-loop μ-loop
-loop-less c = search needs
 
 loop-again : tie.Need-loop-again Inv-loop μ-loop
 loop-again c =
@@ -85,12 +53,6 @@ loop-again c =
       l .loop .inv .3 ∙ field-stored (fieldsOf (s .args .kind)) (s .args .src .now) (l .loop .p) (l .loop .i) (l .loop .v) h _ (d .field-of .ensures)
           (sym (a .domain-asked .ensures) ∙ r .before .if1 .taken) _ (r .read-field .ensures) _ _ (x .x .given .1),
     )
-
-add-i-2 : tie.Need-add-i-2 Inv-loop μ-loop
-add-i-2 c = search needs
-
-loop-less-2 : tie.Need-loop-less-2 Inv-loop μ-loop
-loop-less-2 c = search needs
 
 loop-again-2 : tie.Need-loop-again-2 Inv-loop μ-loop
 loop-again-2 c =
@@ -118,21 +80,21 @@ read-fields-spec =
     (tie.spec
     Inv-loop
     μ-loop
-    field-count-requires
+    (λ c κs. search needs)
     loop-holds
     field-of-requires
-    domain-asked-requires
-    read-field-requires
-    enum-known-q
-    refused-run-requires
+    (λ c κs. search needs)
+    (λ c κs. search needs)
+    (λ c. search needs)
+    (λ c κs. search needs)
     returns
-    enum-known-x
-    mul-v
-    array-write-v
-    add-i
-    loop-less
+    (λ c. search needs)
+    (λ c. search needs)
+    (λ c. search needs)
+    (λ c. search needs)
+    (λ c. search needs)
     loop-again
-    add-i-2
-    loop-less-2
+    (λ c. search needs)
+    (λ c. search needs)
     loop-again-2
     returns-2)

@@ -3,11 +3,8 @@ use borrow.Author.Needs.{needs}
 use Rattle.reading.proofs.refused_run.Statement.{statement}
 use Rattle.reading.proofs.refused_run.Tie as tie
 
-no-slots-requires : tie.Need-no-slots-requires
-no-slots-requires c κs = search needs
-
 returns : tie.Need-returns
 returns c = rw (← c .no-slots .ensures)
 
 pub refused-run-spec : {M : Type 1} → statement M
-refused-run-spec = tie.close (tie.spec no-slots-requires returns)
+refused-run-spec = tie.close (tie.spec (λ c κs. search needs) returns)

@@ -5,45 +5,6 @@ use borrow.Author.Needs.{needs}
 use Rattle.reading.proofs.take_beam.Statement.{statement}
 use Rattle.reading.proofs.take_beam.Tie as tie
 
-take-run-requires : tie.Need-take-run-requires
-take-run-requires c κs = search needs
-
-enum-known-q : tie.Need-enum-known-q
-enum-known-q c = search needs
-
-enum-known-tension : tie.Need-enum-known-tension
-enum-known-tension c = search needs
-
-take-list-requires : tie.Need-take-list-requires
-take-list-requires c κs = search needs
-
-enum-known-q-2 : tie.Need-enum-known-q-2
-enum-known-q-2 c = search needs
-
-enum-known-count : tie.Need-enum-known-count
-enum-known-count c = search needs
-
-take-run-requires-2 : tie.Need-take-run-requires-2
-take-run-requires-2 c κs = search needs
-
-enum-known-q-3 : tie.Need-enum-known-q-3
-enum-known-q-3 c = search needs
-
-enum-known-compression : tie.Need-enum-known-compression
-enum-known-compression c = search needs
-
-take-list-requires-2 : tie.Need-take-list-requires-2
-take-list-requires-2 c κs = search needs
-
-enum-known-q-4 : tie.Need-enum-known-q-4
-enum-known-q-4 c = search needs
-
-enum-known-links : tie.Need-enum-known-links
-enum-known-links c = search needs
-
-take-run-requires-3 : tie.Need-take-run-requires-3
-take-run-requires-3 c κs = search needs
-
 returns : tie.Need-returns
 returns c =
     let x = c .before in
@@ -103,19 +64,19 @@ pub take-beam-spec : {M : Type 1} → statement M
 take-beam-spec =
     tie.close
     (tie.spec
-    take-run-requires
-    enum-known-q
-    enum-known-tension
-    take-list-requires
-    enum-known-q-2
-    enum-known-count
-    take-run-requires-2
-    enum-known-q-3
-    enum-known-compression
-    take-list-requires-2
-    enum-known-q-4
-    enum-known-links
-    take-run-requires-3
+    (λ c κs. search needs)
+    (λ c. search needs)
+    (λ c. search needs)
+    (λ c κs. search needs)
+    (λ c. search needs)
+    (λ c. search needs)
+    (λ c κs. search needs)
+    (λ c. search needs)
+    (λ c. search needs)
+    (λ c κs. search needs)
+    (λ c. search needs)
+    (λ c. search needs)
+    (λ c κs. search needs)
     returns
     returns-2
     returns-3

@@ -5,27 +5,6 @@ use borrow.Author.Needs.{needs}
 use Rattle.reading.proofs.take_column.Statement.{statement}
 use Rattle.reading.proofs.take_column.Tie as tie
 
-take-run-requires : tie.Need-take-run-requires
-take-run-requires c κs = search needs
-
-enum-known-q : tie.Need-enum-known-q
-enum-known-q c = search needs
-
-enum-known-groups : tie.Need-enum-known-groups
-enum-known-groups c = search needs
-
-take-list-requires : tie.Need-take-list-requires
-take-list-requires c κs = search needs
-
-enum-known-q-2 : tie.Need-enum-known-q-2
-enum-known-q-2 c = search needs
-
-enum-known-links : tie.Need-enum-known-links
-enum-known-links c = search needs
-
-take-run-requires-2 : tie.Need-take-run-requires-2
-take-run-requires-2 c κs = search needs
-
 returns : tie.Need-returns
 returns c =
     let x = c .before in
@@ -53,13 +32,13 @@ pub take-column-spec : {M : Type 1} → statement M
 take-column-spec =
     tie.close
     (tie.spec
-    take-run-requires
-    enum-known-q
-    enum-known-groups
-    take-list-requires
-    enum-known-q-2
-    enum-known-links
-    take-run-requires-2
+    (λ c κs. search needs)
+    (λ c. search needs)
+    (λ c. search needs)
+    (λ c κs. search needs)
+    (λ c. search needs)
+    (λ c. search needs)
+    (λ c κs. search needs)
     returns
     returns-2
     returns-3)

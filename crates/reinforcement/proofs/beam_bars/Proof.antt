@@ -4,18 +4,9 @@ use borrow.Author.Needs.{needs}
 use Rattle.reinforcement.proofs.beam_bars.Statement.{statement}
 use Rattle.reinforcement.proofs.beam_bars.Tie as tie
 
-bar-count-requires : tie.Need-bar-count-requires
-bar-count-requires c κs = search needs
-
-bar-count-requires-2 : tie.Need-bar-count-requires-2
-bar-count-requires-2 c κs = search needs
-
-both-requires : tie.Need-both-requires
-both-requires c κs = search needs
-
 returns : tie.Need-returns
 unfolding beamBars
 returns c = rw (c .both .ensures, c .before .bar-count2 .ensures, c .before .before .bar-count .ensures)
 
 pub beam-bars-spec : {M : Type 1} → statement M
-beam-bars-spec = tie.close (tie.spec bar-count-requires bar-count-requires-2 both-requires returns)
+beam-bars-spec = tie.close (tie.spec (λ c κs. search needs) (λ c κs. search needs) (λ c κs. search needs) returns)

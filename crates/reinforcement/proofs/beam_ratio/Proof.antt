@@ -10,26 +10,11 @@ use borrow.Author.Needs.{needs}
 use Rattle.reinforcement.proofs.beam_ratio.Statement.{statement}
 use Rattle.reinforcement.proofs.beam_ratio.Tie as tie
 
-in-millimetres-requires : tie.Need-in-millimetres-requires
-in-millimetres-requires c κs = search needs
-
-steel-area-requires : tie.Need-steel-area-requires
-steel-area-requires c κs = search needs
-
 mul-result : tie.Need-mul-result
 mul-result c =
     let s = c .before .before .before in
     let x = beamOf (s .args .x) in
     omega (arith, c .steel-area .ensures, area-most-by-bars (x .tension) (s .pre .0 .tension), few-bars x (s .pre .1) .0)
-
-mul-result-2 : tie.Need-mul-result-2
-mul-result-2 c = search needs
-
-effective-depth-requires : tie.Need-effective-depth-requires
-effective-depth-requires c κs = search needs
-
-in-millimetres-requires-2 : tie.Need-in-millimetres-requires-2
-in-millimetres-requires-2 c κs = search needs
 
 mul-result-3 : tie.Need-mul-result-3
 mul-result-3 c = omega (arith, mul-le-mul {n₁ = 2 * c .before .before .before .before .in-millimetres .result} {m₁ = c .in-millimetres2 .result} {n₂ = 2000} {m₂ = 2000} (search needs) (search needs))
@@ -43,11 +28,11 @@ pub beam-ratio-spec : {M : Type 1} → statement M
 beam-ratio-spec =
     tie.close
     (tie.spec
-    in-millimetres-requires
-    steel-area-requires
+    (λ c κs. search needs)
+    (λ c κs. search needs)
     mul-result
-    mul-result-2
-    effective-depth-requires
-    in-millimetres-requires-2
+    (λ c. search needs)
+    (λ c κs. search needs)
+    (λ c κs. search needs)
     mul-result-3
     returns)

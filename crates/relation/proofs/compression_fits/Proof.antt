@@ -5,12 +5,6 @@ use borrow.Author.Needs.{needs}
 use Rattle.relation.proofs.compression_fits.Statement.{statement}
 use Rattle.relation.proofs.compression_fits.Tie as tie
 
-in-millimetres-requires : tie.Need-in-millimetres-requires
-in-millimetres-requires c κs = search needs
-
-no-groups-requires : tie.Need-no-groups-requires
-no-groups-requires c κs = search needs
-
 returns : tie.Need-returns
 unfolding compressionFits
 returns c = rw (sym (c .before .no-groups .ensures) ∙ c .if1 .taken, c .before .before .before .in-millimetres .ensures)
@@ -21,4 +15,4 @@ returns-2 c = rw (sym (c .before .no-groups .ensures) ∙ c .if1 .left, c .befor
 
 pub compression-fits-spec : {M : Type 1} → statement M
 compression-fits-spec =
-    tie.close (tie.spec in-millimetres-requires no-groups-requires returns returns-2)
+    tie.close (tie.spec (λ c κs. search needs) (λ c κs. search needs) returns returns-2)

@@ -6,15 +6,6 @@ use borrow.Author.Needs.{needs}
 use Rattle.relation.proofs.flange_fits.Statement.{statement}
 use Rattle.relation.proofs.flange_fits.Tie as tie
 
-in-millimetres-requires : tie.Need-in-millimetres-requires
-in-millimetres-requires c κs = search needs
-
-in-millimetres-requires-2 : tie.Need-in-millimetres-requires-2
-in-millimetres-requires-2 c κs = search needs
-
-in-millimetres-requires-3 : tie.Need-in-millimetres-requires-3
-in-millimetres-requires-3 c κs = search needs
-
 returns : tie.Need-returns
 unfolding flangeFits
 returns c =
@@ -33,12 +24,6 @@ returns-3 c =
     let x = c .before .before .before .before .before .before .args .x in
     simp (le-leb (x .b .0) (x .bf .0) (omega arith), ne-eqb (x .bf .0) (x .b .0) (λ e. omega arith), lt-leb 1 (x .hf .0) (omega arith))
 
-mul-result : tie.Need-mul-result
-mul-result c = search needs
-
-in-millimetres-requires-4 : tie.Need-in-millimetres-requires-4
-in-millimetres-requires-4 c κs = search needs
-
 returns-4 : tie.Need-returns-4
 unfolding flangeFits
 returns-4 c =
@@ -49,12 +34,12 @@ pub flange-fits-spec : {M : Type 1} → statement M
 flange-fits-spec =
     tie.close
     (tie.spec
-    in-millimetres-requires
-    in-millimetres-requires-2
-    in-millimetres-requires-3
+    (λ c κs. search needs)
+    (λ c κs. search needs)
+    (λ c κs. search needs)
     returns
     returns-2
     returns-3
-    mul-result
-    in-millimetres-requires-4
+    (λ c. search needs)
+    (λ c κs. search needs)
     returns-4)

@@ -4,12 +4,9 @@ use borrow.Author.Needs.{needs}
 use Rattle.relation.proofs.mesh_relation.Statement.{statement}
 use Rattle.relation.proofs.mesh_relation.Tie as tie
 
-either-requires : tie.Need-either-requires
-either-requires c κs = search needs
-
 returns : tie.Need-returns
 unfolding meshRelation
 returns c = cc
 
 pub mesh-relation-spec : {M : Type 1} → statement M
-mesh-relation-spec = tie.close (tie.spec either-requires returns)
+mesh-relation-spec = tie.close (tie.spec (λ c κs. search needs) returns)

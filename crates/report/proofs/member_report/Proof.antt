@@ -7,15 +7,6 @@ use borrow.Author.Needs.{needs}
 use Rattle.report.proofs.member_report.Statement.{statement}
 use Rattle.report.proofs.member_report.Tie as tie
 
-built-verdict-requires : tie.Need-built-verdict-requires
-built-verdict-requires c κs = search needs
-
-enum-known-q : tie.Need-enum-known-q
-enum-known-q c = search needs
-
-enum-told : tie.Need-enum-told
-enum-told c = search needs
-
 check-member-requires : tie.Need-check-member-requires
 check-member-requires c κs = accepted-built _ _ _ (sym (c .before .before .before .built-verdict .ensures) ∙ c .before .enum-told .given .1)
 
@@ -28,9 +19,6 @@ print-line-requires c κs =
 returns : tie.Need-returns
 returns c = member-refused _ _ _ (sym (c .before .before .before .built-verdict .ensures) ∙ c .before .q .given .1)
 
-same-length : tie.Need-same-length
-same-length c = search needs
-
 returns-2 : tie.Need-returns-2
 returns-2 c =
     let k = c .before .before .before .before in
@@ -42,11 +30,11 @@ pub member-report-spec : {M : Type 1} → statement M
 member-report-spec =
     tie.close
     (tie.spec
-    built-verdict-requires
-    enum-known-q
-    enum-told
+    (λ c κs. search needs)
+    (λ c. search needs)
+    (λ c. search needs)
     check-member-requires
     print-line-requires
     returns
-    same-length
+    (λ c. search needs)
     returns-2)

@@ -5,15 +5,6 @@ use borrow.Author.Needs.{needs}
 use Rattle.report.proofs.members_start.Statement.{statement}
 use Rattle.report.proofs.members_start.Tie as tie
 
-number-at-requires : tie.Need-number-at-requires
-number-at-requires c κs = search needs
-
-enum-known-next : tie.Need-enum-known-next
-enum-known-next c = search needs
-
-enum-told : tie.Need-enum-told
-enum-told c = search needs
-
 returns : tie.Need-returns
 returns c = sym (ap placeAfter (sym (c .before .before .before .number-at .ensures) ∙ c .before .next .given .1))
 
@@ -22,4 +13,4 @@ returns-2 c = sym (ap placeAfter (sym (c .before .before .number-at .ensures) �
 
 pub members-start-spec : {M : Type 1} → statement M
 members-start-spec =
-    tie.close (tie.spec number-at-requires enum-known-next enum-told returns returns-2)
+    tie.close (tie.spec (λ c κs. search needs) (λ c. search needs) (λ c. search needs) returns returns-2)

@@ -5,18 +5,6 @@ use borrow.Author.Needs.{needs}
 use Rattle.report.proofs.report.Statement.{statement}
 use Rattle.report.proofs.report.Tie as tie
 
-survey-requires : tie.Need-survey-requires
-survey-requires c κs = search needs
-
-enum-known-r : tie.Need-enum-known-r
-enum-known-r c = search needs
-
-enum-known-count : tie.Need-enum-known-count
-enum-known-count c = search needs
-
-members-start-requires : tie.Need-members-start-requires
-members-start-requires c κs = search needs
-
 print-report-requires : tie.Need-print-report-requires
 print-report-requires c κs =
     let k = c .before in
@@ -24,9 +12,6 @@ print-report-requires c κs =
 
 returns : tie.Need-returns
 returns c = refused _ _ _ (surveyed-no _ _ (sym (c .before .r .given .1) ∙ c .before .before .before .survey .ensures))
-
-same-length : tie.Need-same-length
-same-length c = search needs
 
 returns-2 : tie.Need-returns-2
 returns-2 c =
@@ -38,11 +23,11 @@ pub report-spec : {M : Type 1} → statement M
 report-spec =
     tie.close
     (tie.spec
-    survey-requires
-    enum-known-r
-    enum-known-count
-    members-start-requires
+    (λ c κs. search needs)
+    (λ c. search needs)
+    (λ c. search needs)
+    (λ c κs. search needs)
     print-report-requires
     returns
-    same-length
+    (λ c. search needs)
     returns-2)

@@ -7,27 +7,6 @@ use Rattle.rereading.proofs.Rows.{same-got}
 use Rattle.rereading.proofs.reread_list.Statement.{statement}
 use Rattle.rereading.proofs.reread_list.Tie as tie
 
-mul-at-most-four : tie.Need-mul-at-most-four
-mul-at-most-four c = search needs
-
-element-copy-out-at-most-four : tie.Need-element-copy-out-at-most-four
-element-copy-out-at-most-four c = search needs
-
-at-most-four-requires : tie.Need-at-most-four-requires
-at-most-four-requires c κs = search needs
-
-add-reread-row : tie.Need-add-reread-row
-add-reread-row c = search needs
-
-add-reread-row-2 : tie.Need-add-reread-row-2
-add-reread-row-2 c = search needs
-
-mul-reread-row : tie.Need-mul-reread-row
-mul-reread-row c = search needs
-
-add-reread-row-3 : tie.Need-add-reread-row-3
-add-reread-row-3 c = search needs
-
 reread-row-requires : tie.Need-reread-row-requires
 reread-row-requires c κs =
     let n = c .before in
@@ -46,12 +25,12 @@ pub reread-list-spec : {M : Type 1} → statement M
 reread-list-spec =
     tie.close
     (tie.spec
-    mul-at-most-four
-    element-copy-out-at-most-four
-    at-most-four-requires
-    add-reread-row
-    add-reread-row-2
-    mul-reread-row
-    add-reread-row-3
+    (λ c. search needs)
+    (λ c. search needs)
+    (λ c κs. search needs)
+    (λ c. search needs)
+    (λ c. search needs)
+    (λ c. search needs)
+    (λ c. search needs)
     reread-row-requires
     returns)

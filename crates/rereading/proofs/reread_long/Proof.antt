@@ -8,7 +8,8 @@ use borrow.Author.Needs.{needs}
 use Rattle.number.specs.declared.Number.the-variants.{Value}
 use Rattle.number.specs.Number.{groupsAt}
 use Rattle.number.proofs.Groups.{below}
-use Rattle.reading.specs.Reading.{Got, ofNumber}
+use Rattle.question.specs.Reading.{Got}
+use Rattle.reading.specs.Placed.{ofNumber}
 use Rattle.rereading.proofs.Numbers.{there, ends, another, turn, weight-at, weight-after}
 use Rattle.rereading.proofs.reread_long.Statement.{statement}
 use Rattle.rereading.proofs.reread_long.Tie as tie
@@ -50,9 +51,6 @@ ended c =
 shared-slice-read-wide : tie.Need-shared-slice-read-wide Inv-loop μ-loop
 shared-slice-read-wide c = there _ 2 _ _ _ (c .before .before .pre .1)
 
-wide-requires : tie.Need-wide-requires Inv-loop μ-loop
-wide-requires c κs = search needs
-
 loop-holds : tie.Need-loop-holds Inv-loop μ-loop
 loop-holds c =
     let s = c .before .before .before in
@@ -84,9 +82,6 @@ shared-slice-read-wide-2 c =
     let i = c .before in
     let l = i .before .loop in
     there _ _ _ _ _ (rw (turn _ _ _ _ _ _ (l .inv .5) (i .loop-test .taken) (read-on (i .before))) at (read-on (i .before)))
-
-wide-requires-2 : tie.Need-wide-requires-2 Inv-loop μ-loop
-wide-requires-2 c κs = search needs
 
 loop-less : tie.Need-loop-less Inv-loop μ-loop
 loop-less c = omega (arith, c .before .before .before .loop .inv .0)
@@ -129,14 +124,14 @@ reread-long-spec =
     Inv-loop
     μ-loop
     shared-slice-read-wide
-    wide-requires
+    (λ c κs. search needs)
     loop-holds
     mul-v
     add-v
     mul-w
     add-p
     shared-slice-read-wide-2
-    wide-requires-2
+    (λ c κs. search needs)
     loop-less
     loop-again
     mul-number-read

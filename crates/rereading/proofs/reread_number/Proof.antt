@@ -26,16 +26,10 @@ inside c =
 shared-slice-read-wide : tie.Need-shared-slice-read-wide
 shared-slice-read-wide c = first-there _ _ (c .before .before .pre)
 
-wide-requires : tie.Need-wide-requires
-wide-requires c κs = search needs
-
 add-number-read : tie.Need-add-number-read
 add-number-read c =
     let s = c .before .before .before .before in
     omega (arith, first-there _ _ (s .pre), s .good .0 .0)
-
-number-read-requires : tie.Need-number-read-requires
-number-read-requires c κs = search needs
 
 returns : tie.Need-returns
 returns c =
@@ -47,12 +41,6 @@ add-wide c = omega (arith, inside c, c .before .before .before .before .good .0 
 
 shared-slice-read-wide-2 : tie.Need-shared-slice-read-wide-2
 shared-slice-read-wide-2 c = inside (c .before)
-
-wide-requires-2 : tie.Need-wide-requires-2
-wide-requires-2 c κs = search needs
-
-mul-number-read : tie.Need-mul-number-read
-mul-number-read c = search needs
 
 add-number-read-2 : tie.Need-add-number-read-2
 add-number-read-2 c = omega (arith, first-byte (c .before .before .before .before))
@@ -103,14 +91,14 @@ reread-number-spec =
     tie.close
     (tie.spec
     shared-slice-read-wide
-    wide-requires
+    (λ c κs. search needs)
     add-number-read
-    number-read-requires
+    (λ c κs. search needs)
     returns
     add-wide
     shared-slice-read-wide-2
-    wide-requires-2
-    mul-number-read
+    (λ c κs. search needs)
+    (λ c. search needs)
     add-number-read-2
     add-number-read-3
     number-read-requires-2

@@ -22,18 +22,6 @@ reread-number-requires c κs =
     let l = c .before in
     number-got _ _ _ _ _ (c .loop-test .taken) (rw (l .loop .inv .1) at (l .before .before .pre .2))
 
-mul-v : tie.Need-mul-v Inv-loop μ-loop
-mul-v c = search needs
-
-element-write-v : tie.Need-element-write-v Inv-loop μ-loop
-element-write-v c = search needs
-
-add-i : tie.Need-add-i Inv-loop μ-loop
-add-i c = search needs
-
-loop-less : tie.Need-loop-less Inv-loop μ-loop
-loop-less c = search needs
-
 loop-again : tie.Need-loop-again Inv-loop μ-loop
 loop-again c =
     let l = c .before .before in
@@ -50,9 +38,9 @@ reread-row-spec =
     μ-loop
     loop-holds
     reread-number-requires
-    mul-v
-    element-write-v
-    add-i
-    loop-less
+    (λ c. search needs)
+    (λ c. search needs)
+    (λ c. search needs)
+    (λ c. search needs)
     loop-again
     returns)

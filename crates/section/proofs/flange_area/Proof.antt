@@ -9,9 +9,6 @@ use Rattle.section.proofs.flange_area.Tie as tie
 use Rattle.section.proofs.flange_area.Reads as reads
 use Rattle.section.proofs.flange_area.Lts as lts
 
-sub-result : tie.Need-sub-result
-sub-result c = search needs
-
 mul-result : tie.Need-mul-result
 mul-result c = let x = c .before .before .args .x in omega (arith, product-most (x .bf .0 - x .b .0) (x .hf .0) 3000 1000 (omega arith))
 
@@ -20,4 +17,4 @@ unfolding sectionOf
 returns c = refl
 
 pub flange-area-spec : {M : Type 1} → statement M
-flange-area-spec = tie.close (tie.spec sub-result mul-result returns)
+flange-area-spec = tie.close (tie.spec (λ c. search needs) mul-result returns)

@@ -9,15 +9,6 @@ use Rattle.section.proofs.link_area.Reads as reads
 use Rattle.section.proofs.link_area.Lts as lts
 use Rattle.standard.proofs.area_of.Reads as area-of-reads
 
-wide-requires : tie.Need-wide-requires
-wide-requires c κs = search needs
-
-area-of-requires : tie.Need-area-of-requires
-area-of-requires c κs = search needs
-
-wide-requires-2 : tie.Need-wide-requires-2
-wide-requires-2 c κs = search needs
-
 mul-result : tie.Need-mul-result
 mul-result c =
     let legs = c .before .before .wide .result in
@@ -30,4 +21,4 @@ returns c = cc
 
 pub link-area-spec : {M : Type 1} → statement M
 link-area-spec =
-    tie.close (tie.spec wide-requires area-of-requires wide-requires-2 mul-result returns)
+    tie.close (tie.spec (λ c κs. search needs) (λ c κs. search needs) (λ c κs. search needs) mul-result returns)

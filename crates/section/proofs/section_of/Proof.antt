@@ -13,30 +13,6 @@ use Rattle.material.proofs.concrete_of.Reads as concrete-of-reads
 use Rattle.material.proofs.fyv_of.Reads as fyv-of-reads
 use Rattle.material.proofs.steel_of.Reads as steel-of-reads
 
-totals-of-requires : tie.Need-totals-of-requires
-totals-of-requires c κs = search needs
-
-effective-depth-requires : tie.Need-effective-depth-requires
-effective-depth-requires c κs = search needs
-
-flange-area-requires : tie.Need-flange-area-requires
-flange-area-requires c κs = search needs
-
-steel-area-requires : tie.Need-steel-area-requires
-steel-area-requires c κs = search needs
-
-link-area-requires : tie.Need-link-area-requires
-link-area-requires c κs = search needs
-
-concrete-of-requires : tie.Need-concrete-of-requires
-concrete-of-requires c κs = search needs
-
-steel-of-requires : tie.Need-steel-of-requires
-steel-of-requires c κs = search needs
-
-fyv-of-requires : tie.Need-fyv-of-requires
-fyv-of-requires c κs = search needs
-
 returns : tie.Need-returns
 returns c =
     made (c .before .before .before .before .before .before .before .before .before .before .before .before .before .before .before .before .before .before .args .x) _ _ _ _ _ _ _ _
@@ -47,12 +23,12 @@ pub section-of-spec : {M : Type 1} → statement M
 section-of-spec =
     tie.close
     (tie.spec
-    totals-of-requires
-    effective-depth-requires
-    flange-area-requires
-    steel-area-requires
-    link-area-requires
-    concrete-of-requires
-    steel-of-requires
-    fyv-of-requires
+    (λ c κs. search needs)
+    (λ c κs. search needs)
+    (λ c κs. search needs)
+    (λ c κs. search needs)
+    (λ c κs. search needs)
+    (λ c κs. search needs)
+    (λ c κs. search needs)
+    (λ c κs. search needs)
     returns)

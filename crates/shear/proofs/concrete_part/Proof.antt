@@ -5,21 +5,9 @@ use Rattle.shear.proofs.Bounds.{sizes}
 use Rattle.shear.proofs.concrete_part.Statement.{statement}
 use Rattle.shear.proofs.concrete_part.Tie as tie
 
-in-hundredths-requires : tie.Need-in-hundredths-requires
-in-hundredths-requires c κs = search needs
-
-mul-result : tie.Need-mul-result
-mul-result c = search needs
-
-in-millimetres-requires : tie.Need-in-millimetres-requires
-in-millimetres-requires c κs = search needs
-
 mul-result-2 : tie.Need-mul-result-2
 mul-result-2 c =
     rw (c .before .in-hundredths .ensures, c .in-millimetres .ensures) (omega (arith, sizes (c .before .before .pre)))
-
-in-millimetres-requires-2 : tie.Need-in-millimetres-requires-2
-in-millimetres-requires-2 c κs = search needs
 
 mul-result-3 : tie.Need-mul-result-3
 mul-result-3 c =
@@ -33,10 +21,10 @@ pub concrete-part-spec : {M : Type 1} → statement M
 concrete-part-spec =
     tie.close
     (tie.spec
-    in-hundredths-requires
-    mul-result
-    in-millimetres-requires
+    (λ c κs. search needs)
+    (λ c. search needs)
+    (λ c κs. search needs)
     mul-result-2
-    in-millimetres-requires-2
+    (λ c κs. search needs)
     mul-result-3
     returns)

@@ -5,12 +5,6 @@ use Rattle.shear.specs.Steps.{leastLinks}
 use Rattle.shear.proofs.least_links.Statement.{statement}
 use Rattle.shear.proofs.least_links.Tie as tie
 
-shear-above-requires : tie.Need-shear-above-requires
-shear-above-requires c κs = search needs
-
-links-suffice-requires : tie.Need-links-suffice-requires
-links-suffice-requires c κs = search needs
-
 returns : tie.Need-returns
 unfolding leastLinks
 returns c = rw (sym (c .before .before .shear-above .ensures) ∙ c .before .if1 .taken) (c .links-suffice .ensures)
@@ -21,4 +15,4 @@ returns-2 c = rw (sym (c .before .shear-above .ensures) ∙ c .if1 .left)
 
 pub least-links-spec : {M : Type 1} → statement M
 least-links-spec =
-    tie.close (tie.spec shear-above-requires links-suffice-requires returns returns-2)
+    tie.close (tie.spec (λ c κs. search needs) (λ c κs. search needs) returns returns-2)

@@ -4,18 +4,6 @@ use Rattle.shear.specs.Steps.{linkSpacing}
 use Rattle.shear.proofs.link_spacing.Statement.{statement}
 use Rattle.shear.proofs.link_spacing.Tie as tie
 
-in-millimetres-requires : tie.Need-in-millimetres-requires
-in-millimetres-requires c κs = search needs
-
-shear-above-requires : tie.Need-shear-above-requires
-shear-above-requires c κs = search needs
-
-spacing-limit-requires : tie.Need-spacing-limit-requires
-spacing-limit-requires c κs = search needs
-
-in-millimetres-requires-2 : tie.Need-in-millimetres-requires-2
-in-millimetres-requires-2 c κs = search needs
-
 returns : tie.Need-returns
 unfolding linkSpacing
 returns c =
@@ -25,8 +13,8 @@ pub link-spacing-spec : {M : Type 1} → statement M
 link-spacing-spec =
     tie.close
     (tie.spec
-    in-millimetres-requires
-    shear-above-requires
-    spacing-limit-requires
-    in-millimetres-requires-2
+    (λ c κs. search needs)
+    (λ c κs. search needs)
+    (λ c κs. search needs)
+    (λ c κs. search needs)
     returns)

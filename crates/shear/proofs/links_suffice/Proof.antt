@@ -5,32 +5,14 @@ use Rattle.shear.proofs.Bounds.{sizes}
 use Rattle.shear.proofs.links_suffice.Statement.{statement}
 use Rattle.shear.proofs.links_suffice.Tie as tie
 
-in-hundredths-requires : tie.Need-in-hundredths-requires
-in-hundredths-requires c κs = search needs
-
-mul-concrete : tie.Need-mul-concrete
-mul-concrete c = search needs
-
-in-millimetres-requires : tie.Need-in-millimetres-requires
-in-millimetres-requires c κs = search needs
-
 mul-concrete-2 : tie.Need-mul-concrete-2
 mul-concrete-2 c =
     rw (c .before .in-hundredths .ensures, c .in-millimetres .ensures) (omega (arith, sizes (c .before .before .pre)))
-
-in-millimetres-requires-2 : tie.Need-in-millimetres-requires-2
-in-millimetres-requires-2 c κs = search needs
 
 mul-result : tie.Need-mul-result
 mul-result c =
     let s = c .before .before in
     rw (s .in-hundredths .ensures, c .before .in-millimetres .ensures, c .in-millimetres2 .ensures) (omega (arith, sizes (s .before .pre)))
-
-mul-result-2 : tie.Need-mul-result-2
-mul-result-2 c = search needs
-
-in-units-requires : tie.Need-in-units-requires
-in-units-requires c κs = search needs
 
 mul-result-3 : tie.Need-mul-result-3
 mul-result-3 c = rw (c .in-units .ensures) (omega (arith, sizes (c .before .before .before .before .before .pre)))
@@ -44,13 +26,13 @@ pub links-suffice-spec : {M : Type 1} → statement M
 links-suffice-spec =
     tie.close
     (tie.spec
-    in-hundredths-requires
-    mul-concrete
-    in-millimetres-requires
+    (λ c κs. search needs)
+    (λ c. search needs)
+    (λ c κs. search needs)
     mul-concrete-2
-    in-millimetres-requires-2
+    (λ c κs. search needs)
     mul-result
-    mul-result-2
-    in-units-requires
+    (λ c. search needs)
+    (λ c κs. search needs)
     mul-result-3
     returns)

@@ -6,12 +6,6 @@ use Rattle.shear.proofs.Bounds.{concrete-most, links-most}
 use Rattle.shear.proofs.shear_capacity.Statement.{statement}
 use Rattle.shear.proofs.shear_capacity.Tie as tie
 
-concrete-shear-requires : tie.Need-concrete-shear-requires
-concrete-shear-requires c κs = search needs
-
-link-shear-requires : tie.Need-link-shear-requires
-link-shear-requires c κs = search needs
-
 plus-requires : tie.Need-plus-requires
 plus-requires c κs =
     let s = c .before .before in
@@ -23,4 +17,4 @@ returns c = rw (c .plus .ensures, c .before .link-shear .ensures, c .before .bef
 
 pub shear-capacity-spec : {M : Type 1} → statement M
 shear-capacity-spec =
-    tie.close (tie.spec concrete-shear-requires link-shear-requires plus-requires returns)
+    tie.close (tie.spec (λ c κs. search needs) (λ c κs. search needs) plus-requires returns)

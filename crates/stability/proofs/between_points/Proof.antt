@@ -16,32 +16,11 @@ here c =
     let a = c .before .before .args in
     falling _ _ (a .span) (a .b) (a .i) (c .before .point-at .ensures) (c .point-at2 .ensures) (on (c .before .before))
 
-point-at-requires : tie.Need-point-at-requires
-point-at-requires c κs = search needs
-
-cast-p : tie.Need-cast-p
-cast-p c = search needs
-
 add-point-at : tie.Need-add-point-at
 add-point-at c = omega (arith, on (c .before) .last)
 
-point-at-requires-2 : tie.Need-point-at-requires-2
-point-at-requires-2 c κs = search needs
-
-cast-q : tie.Need-cast-q
-cast-q c = search needs
-
-mul-start : tie.Need-mul-start
-mul-start c = search needs
-
-add-start : tie.Need-add-start
-add-start c = search needs
-
 mul-start-2 : tie.Need-mul-start-2
 mul-start-2 c = omega (arith, on (c .before .before) .low)
-
-mul-result : tie.Need-mul-result
-mul-result c = search needs
 
 mul-result-2 : tie.Need-mul-result-2
 mul-result-2 c = omega (arith, here c)
@@ -60,21 +39,21 @@ sub-result-3 c = here c .off
 
 returns : tie.Need-returns
 unfolding between
-returns c = (cc, omega (arith, here c))
+returns c = cc
 
 pub between-points-spec : {M : Type 1} → statement M
 between-points-spec =
     tie.close
     (tie.spec
-    point-at-requires
-    cast-p
+    (λ c κs. search needs)
+    (λ c. search needs)
     add-point-at
-    point-at-requires-2
-    cast-q
-    mul-start
-    add-start
+    (λ c κs. search needs)
+    (λ c. search needs)
+    (λ c. search needs)
+    (λ c. search needs)
     mul-start-2
-    mul-result
+    (λ c. search needs)
     mul-result-2
     sub-result
     sub-result-2

@@ -5,17 +5,11 @@ use Rattle.standard.proofs.Bars.{unlisted-area}
 use Rattle.standard.proofs.area_of.Statement.{statement}
 use Rattle.standard.proofs.area_of.Tie as tie
 
-is-diameter-requires : tie.Need-is-diameter-requires
-is-diameter-requires c κs = search needs
-
 bar-area-requires : tie.Need-bar-area-requires
 bar-area-requires c κs = sym (c .before .is-diameter .ensures) ∙ c .if1 .taken
-
-returns : tie.Need-returns
-returns c = c .bar-area .ensures
 
 returns-2 : tie.Need-returns-2
 returns-2 c = sym (unlisted-area _ (sym (c .before .is-diameter .ensures) ∙ c .if1 .left))
 
 pub area-of-spec : {M : Type 1} → statement M
-area-of-spec = tie.close (tie.spec is-diameter-requires bar-area-requires returns returns-2)
+area-of-spec = tie.close (tie.spec (λ c κs. search needs) bar-area-requires (λ c. c .bar-area .ensures) returns-2)

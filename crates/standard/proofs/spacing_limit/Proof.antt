@@ -4,21 +4,6 @@ use Rattle.standard.specs.Spacing.{spacingLimit}
 use Rattle.standard.proofs.spacing_limit.Statement.{statement}
 use Rattle.standard.proofs.spacing_limit.Tie as tie
 
-in-millimetres-requires : tie.Need-in-millimetres-requires
-in-millimetres-requires c κs = search needs
-
-by-height-requires : tie.Need-by-height-requires
-by-height-requires c κs = search needs
-
-of-millimetres-requires : tie.Need-of-millimetres-requires
-of-millimetres-requires c κs = search needs
-
-by-height-requires-2 : tie.Need-by-height-requires-2
-by-height-requires-2 c κs = search needs
-
-of-millimetres-requires-2 : tie.Need-of-millimetres-requires-2
-of-millimetres-requires-2 c κs = search needs
-
 returns : tie.Need-returns
 unfolding spacingLimit
 returns c =
@@ -35,10 +20,10 @@ pub spacing-limit-spec : {M : Type 1} → statement M
 spacing-limit-spec =
     tie.close
     (tie.spec
-    in-millimetres-requires
-    by-height-requires
-    of-millimetres-requires
-    by-height-requires-2
-    of-millimetres-requires-2
+    (λ c κs. search needs)
+    (λ c κs. search needs)
+    (λ c κs. search needs)
+    (λ c κs. search needs)
+    (λ c κs. search needs)
     returns
     returns-2)

@@ -3,21 +3,6 @@ use borrow.Author.Needs.{needs}
 use Rattle.told.proofs.tell_utilization.Statement.{statement}
 use Rattle.told.proofs.tell_utilization.Tie as tie
 
-enum-known-a : tie.Need-enum-known-a
-enum-known-a c = search needs
-
-governing-of-requires : tie.Need-governing-of-requires
-governing-of-requires c κs = search needs
-
-with-governing-requires : tie.Need-with-governing-requires
-with-governing-requires c κs = search needs
-
-enum-known-a-2 : tie.Need-enum-known-a-2
-enum-known-a-2 c = search needs
-
-refused-utilization-requires : tie.Need-refused-utilization-requires
-refused-utilization-requires c κs = search needs
-
 returns : tie.Need-returns
 returns c = let g = c .before in rw (g .before .before .a .given .1, c .with-governing .ensures, g .governing-of .ensures .value-is)
 
@@ -28,10 +13,10 @@ pub tell-utilization-spec : {M : Type 1} → statement M
 tell-utilization-spec =
     tie.close
     (tie.spec
-    enum-known-a
-    governing-of-requires
-    with-governing-requires
-    enum-known-a-2
-    refused-utilization-requires
+    (λ c. search needs)
+    (λ c κs. search needs)
+    (λ c κs. search needs)
+    (λ c. search needs)
+    (λ c κs. search needs)
     returns
     returns-2)

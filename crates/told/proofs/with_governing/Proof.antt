@@ -4,12 +4,6 @@ use borrow.Author.Needs.{needs}
 use Rattle.told.proofs.with_governing.Statement.{statement}
 use Rattle.told.proofs.with_governing.Tie as tie
 
-enum-known-g : tie.Need-enum-known-g
-enum-known-g c = search needs
-
-enum-told : tie.Need-enum-told
-enum-told c = search needs
-
 returns : tie.Need-returns
 returns c = rw (c .before .g .given .1)
 
@@ -18,4 +12,4 @@ unfolding ofBits
 returns-2 c = rw (c .enum-told .given .1)
 
 pub with-governing-spec : {M : Type 1} → statement M
-with-governing-spec = tie.close (tie.spec enum-known-g enum-told returns returns-2)
+with-governing-spec = tie.close (tie.spec (λ c. search needs) (λ c. search needs) returns returns-2)

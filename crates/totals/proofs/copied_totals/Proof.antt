@@ -2,8 +2,6 @@
 use mathlib.Core.Path.{sym, _∙_}
 use borrow.Author.Needs.{needs}
 use borrow.Author.Tests.{le-leb, lt-leb}
-use native.Mathlib.Omega.{arith}
-use lib.ListN.{length}
 use Rattle.totals.specs.Totals.{barTotals}
 use Rattle.totals.proofs.Totals.{four-hold}
 use Rattle.totals.proofs.copied_totals.Statement.{statement}

@@ -17,24 +17,6 @@ abbrev μ-loop : tie.MeasureT-loop
 loop-holds : tie.Need-loop-holds Inv-loop μ-loop
 loop-holds c = (search needs, refl)
 
-mul-group-holds : tie.Need-mul-group-holds Inv-loop μ-loop
-mul-group-holds c = search needs
-
-array-copy-out-group-holds : tie.Need-array-copy-out-group-holds Inv-loop μ-loop
-array-copy-out-group-holds c = search needs
-
-group-holds-requires : tie.Need-group-holds-requires Inv-loop μ-loop
-group-holds-requires c κs = search needs
-
-both-requires : tie.Need-both-requires Inv-loop μ-loop
-both-requires c κs = search needs
-
-add-i : tie.Need-add-i Inv-loop μ-loop
-add-i c = search needs
-
-loop-less : tie.Need-loop-less Inv-loop μ-loop
-loop-less c = search needs
-
 loop-again : tie.Need-loop-again Inv-loop μ-loop
 loop-again c =
     let a = c .before .before .before .before in
@@ -52,11 +34,11 @@ groups-hold-spec =
     Inv-loop
     μ-loop
     loop-holds
-    mul-group-holds
-    array-copy-out-group-holds
-    group-holds-requires
-    both-requires
-    add-i
-    loop-less
+    (λ c. search needs)
+    (λ c. search needs)
+    (λ c κs. search needs)
+    (λ c κs. search needs)
+    (λ c. search needs)
+    (λ c. search needs)
     loop-again
     returns)

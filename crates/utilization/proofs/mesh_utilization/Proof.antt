@@ -4,21 +4,6 @@ use borrow.Author.Needs.{needs}
 use Rattle.utilization.proofs.mesh_utilization.Statement.{statement}
 use Rattle.utilization.proofs.mesh_utilization.Tie as tie
 
-over-limit-requires : tie.Need-over-limit-requires
-over-limit-requires c κs = search needs
-
-over-limit-requires-2 : tie.Need-over-limit-requires-2
-over-limit-requires-2 c κs = search needs
-
-no-ratio-requires : tie.Need-no-ratio-requires
-no-ratio-requires c κs = search needs
-
-no-ratio-requires-2 : tie.Need-no-ratio-requires-2
-no-ratio-requires-2 c κs = search needs
-
-together-requires : tie.Need-together-requires
-together-requires c κs = search needs
-
 returns : tie.Need-returns
 unfolding meshUtilization
 returns c =
@@ -31,9 +16,9 @@ pub mesh-utilization-spec : {M : Type 1} → statement M
 mesh-utilization-spec =
     tie.close
     (tie.spec
-    over-limit-requires
-    over-limit-requires-2
-    no-ratio-requires
-    no-ratio-requires-2
-    together-requires
+    (λ c κs. search needs)
+    (λ c κs. search needs)
+    (λ c κs. search needs)
+    (λ c κs. search needs)
+    (λ c κs. search needs)
     returns)

@@ -6,15 +6,6 @@ use borrow.Author.Needs.{needs}
 use Rattle.utilization.proofs.utilization_of.Statement.{statement}
 use Rattle.utilization.proofs.utilization_of.Tie as tie
 
-built-verdict-requires : tie.Need-built-verdict-requires
-built-verdict-requires c κs = search needs
-
-enum-known-q : tie.Need-enum-known-q
-enum-known-q c = search needs
-
-enum-told : tie.Need-enum-told
-enum-told c = search needs
-
 check-member-requires : tie.Need-check-member-requires
 check-member-requires c κs = accepted-built _ _ _ (sym (c .before .before .before .built-verdict .ensures) ∙ c .before .enum-told .given .1)
 
@@ -37,9 +28,9 @@ pub utilization-of-spec : {M : Type 1} → statement M
 utilization-of-spec =
     tie.close
     (tie.spec
-    built-verdict-requires
-    enum-known-q
-    enum-told
+    (λ c κs. search needs)
+    (λ c. search needs)
+    (λ c. search needs)
     check-member-requires
     member-utilization-requires
     returns

@@ -16,20 +16,11 @@ printed : (c : tie.After-print-schedule) →
     (n ≤ length out) × (n ≡ length (take n out))
 printed c = within _ _ _ _ (c .print-schedule .ensures) (omega arith)
 
-slice-aggregate-print-schedule : tie.Need-slice-aggregate-print-schedule
-slice-aggregate-print-schedule c = search needs
-
-print-schedule-requires : tie.Need-print-schedule-requires
-print-schedule-requires c κs = search needs
-
 array-share-prefix-out : tie.Need-array-share-prefix-out
 array-share-prefix-out c = printed (c .before) .0
 
 slice-aggregate-same : tie.Need-slice-aggregate-same
 slice-aggregate-same c = printed (c .before .before) .1
-
-same-requires : tie.Need-same-requires
-same-requires c κs = search needs
 
 returns : tie.Need-returns
 returns c =
@@ -41,9 +32,9 @@ pub agrees-spec : {M : Type 1} → statement M
 agrees-spec =
     tie.close
     (tie.spec
-    slice-aggregate-print-schedule
-    print-schedule-requires
+    (λ c. search needs)
+    (λ c κs. search needs)
     array-share-prefix-out
     slice-aggregate-same
-    same-requires
+    (λ c κs. search needs)
     returns)

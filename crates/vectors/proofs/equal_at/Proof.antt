@@ -5,44 +5,11 @@ use borrow.Author.Needs.{needs}
 use Rattle.vectors.proofs.equal_at.Statement.{statement}
 use Rattle.vectors.proofs.equal_at.Tie as tie
 
-part-end-requires : tie.Need-part-end-requires
-part-end-requires c κs = search needs
-
-part-end-requires-2 : tie.Need-part-end-requires-2
-part-end-requires-2 c κs = search needs
-
-add-a : tie.Need-add-a
-add-a c = search needs
-
-add-c : tie.Need-add-c
-add-c c = search needs
-
 returns : tie.Need-returns
 returns c =
     let q = c .before in
     let x = q .before .before .before .args in
     sym (cut (x .src .now) (x .p) _ _ (q .before .part-end .ensures .0) (q .part-end2 .ensures .0) (c .if1 .taken))
-
-sub-agrees : tie.Need-sub-agrees
-sub-agrees c = search needs
-
-part-agrees-start : tie.Need-part-agrees-start
-part-agrees-start c = search needs
-
-part-agrees-end : tie.Need-part-agrees-end
-part-agrees-end c = search needs
-
-sub-agrees-2 : tie.Need-sub-agrees-2
-sub-agrees-2 c = search needs
-
-part-agrees-start-2 : tie.Need-part-agrees-start-2
-part-agrees-start-2 c = search needs
-
-part-agrees-end-2 : tie.Need-part-agrees-end-2
-part-agrees-end-2 c = search needs
-
-agrees-requires : tie.Need-agrees-requires
-agrees-requires c κs = search needs
 
 returns-2 : tie.Need-returns-2
 returns-2 c =
@@ -60,16 +27,16 @@ pub equal-at-spec : {M : Type 1} → statement M
 equal-at-spec =
     tie.close
     (tie.spec
-    part-end-requires
-    part-end-requires-2
-    add-a
-    add-c
+    (λ c κs. search needs)
+    (λ c κs. search needs)
+    (λ c. search needs)
+    (λ c. search needs)
     returns
-    sub-agrees
-    part-agrees-start
-    part-agrees-end
-    sub-agrees-2
-    part-agrees-start-2
-    part-agrees-end-2
-    agrees-requires
+    (λ c. search needs)
+    (λ c. search needs)
+    (λ c. search needs)
+    (λ c. search needs)
+    (λ c. search needs)
+    (λ c. search needs)
+    (λ c κs. search needs)
     returns-2)

@@ -19,9 +19,6 @@ slice-aggregate-row-tally c = sym (long (c .before .before))
 row-tally-requires : tie.Need-row-tally-requires
 row-tally-requires c κs = omega (arith, long (c .before .before))
 
-one-if-requires : tie.Need-one-if-requires
-one-if-requires c κs = search needs
-
 add-t8 : tie.Need-add-t8
 add-t8 c =
     let x = c .before .before .before .before .before .args in
@@ -35,4 +32,4 @@ returns c =
 pub input-tally-spec : {M : Type 1} → statement M
 input-tally-spec =
     tie.close
-    (tie.spec slice-aggregate-row-tally row-tally-requires one-if-requires add-t8 returns)
+    (tie.spec slice-aggregate-row-tally row-tally-requires (λ c κs. search needs) add-t8 returns)

@@ -24,26 +24,8 @@ loop-holds c =
     let e = all-left s in
     (search needs, search needs, search needs, omega (arith, ap length e), omega (arith, ap (equalOf s) e))
 
-equal-at-requires : tie.Need-equal-at-requires Inv-loop μ-loop
-equal-at-requires c κs = search needs
-
-one-if-requires : tie.Need-one-if-requires Inv-loop μ-loop
-one-if-requires c κs = search needs
-
 add-equal : tie.Need-add-equal Inv-loop μ-loop
 add-equal c = omega (arith, c .one-if .ensures, one-most (c .before .equal-at .result))
-
-add-vectors : tie.Need-add-vectors Inv-loop μ-loop
-add-vectors c = search needs
-
-part-end-requires : tie.Need-part-end-requires Inv-loop μ-loop
-part-end-requires c κs = search needs
-
-part-end-requires-2 : tie.Need-part-end-requires-2 Inv-loop μ-loop
-part-end-requires-2 c κs = search needs
-
-loop-less : tie.Need-loop-less Inv-loop μ-loop
-loop-less c = search needs
 
 loop-again : tie.Need-loop-again Inv-loop μ-loop
 loop-again c =
@@ -71,12 +53,12 @@ row-tally-spec =
     Inv-loop
     μ-loop
     loop-holds
-    equal-at-requires
-    one-if-requires
+    (λ c κs. search needs)
+    (λ c κs. search needs)
     add-equal
-    add-vectors
-    part-end-requires
-    part-end-requires-2
-    loop-less
+    (λ c. search needs)
+    (λ c κs. search needs)
+    (λ c κs. search needs)
+    (λ c. search needs)
     loop-again
     returns)

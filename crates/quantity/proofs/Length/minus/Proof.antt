@@ -5,11 +5,8 @@ use Rattle.quantity.specs.Unit.{millimetres}
 use Rattle.quantity.proofs.Length.minus.Statement.{statement}
 use Rattle.quantity.proofs.Length.minus.Tie as tie
 
-less-requires : tie.Need-less-requires
-less-requires c κs = search needs
-
 returns : tie.Need-returns
 returns c = ap millimetres (c .less .ensures)
 
 pub minus-spec : {M : Type 1} → statement M
-minus-spec = tie.close (tie.spec less-requires returns)
+minus-spec = tie.close (tie.spec (λ c κs. search needs) returns)
