@@ -1,10 +1,15 @@
 #!/bin/sh
 # Proves and builds the static library, then builds and runs the examples in C and in Rust on document 01's schedule:
-# both must print bindings/expected.
+# both must print bindings/expected. The C header and the Rust wrapper must state the same version.
 set -eu
 here=$(cd "$(dirname "$0")" && pwd)
 root=$here/..
 work=$root/target/bindings
+version=$(sed -n 's/^version = "\(.*\)"$/\1/p' "$here/rust/Cargo.toml")
+grep -qx "#define KOXALTES_VERSION \"$version\"" "$here/c/koxaltes.h" || {
+    echo "bindings/c/koxaltes.h does not state version $version of bindings/rust/Cargo.toml"
+    exit 1
+}
 mkdir -p "$work"
 (cd "$root" && rt staticlib koxaltes >"$work/library.log" 2>&1) || {
     cat "$work/library.log"

@@ -6,6 +6,7 @@
 #include "koxaltes.h"
 
 static const koxaltes_group tension[] = {{.diameter = 20, .bars = 4}};
+/* a list of length 0, whose pointer must still not be null */
 static const koxaltes_group none[] = {{0, 0}};
 
 static koxaltes_member beam(void) {
@@ -31,7 +32,7 @@ static koxaltes_member beam(void) {
 }
 
 static void print(koxaltes_answer a, const uint8_t *text) {
-    if (a.question == 0) {
+    if (a.question == KOXALTES_ACCEPTED) {
         fwrite(text, 1, a.length, stdout);
     } else {
         printf("refused %u member %u\n", a.question, a.member);
@@ -39,25 +40,27 @@ static void print(koxaltes_answer a, const uint8_t *text) {
 }
 
 static void print_utilization(koxaltes_utilization_answer a) {
-    if (a.question == 0 && a.governs) {
+    if (a.question == KOXALTES_ACCEPTED && a.governs) {
         printf("moment %.3f shear %.3f width %.3f deflection %.3f governing %.3f\n", a.utilization.first,
                a.utilization.second, a.utilization.third, a.utilization.fourth, a.governing);
     }
 }
 
 static void print_totals(koxaltes_bar_totals_answer a) {
-    if (a.question == 0) {
+    if (a.question == KOXALTES_ACCEPTED) {
         printf("bars %" PRIu64 " area %" PRIu64 ".%" PRIu64 " mm2\n", a.bars, a.area / 10, a.area % 10);
     }
 }
 
 int main(void) {
-    static uint8_t schedule[60001];
-    static uint8_t out[27555];
+    /* one byte more than a schedule may have, so that a longer one is refused and not cut */
+    static uint8_t schedule[KOXALTES_LONGEST_SCHEDULE + 1];
+    static uint8_t out[KOXALTES_LONGEST_REPORT];
     koxaltes_member m = beam();
     print(koxaltes_member_report(m, tension, 1, none, 0, out, sizeof out), out);
     print_utilization(koxaltes_member_utilization(m, tension, 1, none, 0));
     print_totals(koxaltes_bar_totals(tension, 1, 1));
+    /* a count above its list: KOXALTES_REFUSED_FIELD */
     m.fields[KOXALTES_BEAM_TENSION_GROUPS] = 2;
     print(koxaltes_member_report(m, tension, 1, none, 0, out, sizeof out), out);
     size_t length = fread(schedule, 1, sizeof schedule, stdin);

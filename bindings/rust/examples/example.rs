@@ -1,7 +1,7 @@
 //! Document 01's beam 1 built by a caller: its line, its utilizations and the totals of its bars. Then the schedule on standard
 //! input, reported.
 
-use koxaltes::{Beam, Group, Refusal, LONGEST_REPORT};
+use koxaltes::{Beam, Group, Question, Refusal, LONGEST_REPORT, LONGEST_SCHEDULE};
 use std::io::Read;
 
 const BEAM: Beam = Beam {
@@ -47,9 +47,14 @@ fn main() {
     if let Ok(t) = koxaltes::bar_totals(&tension, 1) {
         println!("bars {} area {}.{} mm2", t.bars, t.area / 10, t.area % 10);
     }
+    // a count above its list
     let two_groups = Beam { tension_groups: 2, ..BEAM };
-    print(koxaltes::member_report(&two_groups.member(1), &tension, &[], &mut out));
+    let answer = koxaltes::member_report(&two_groups.member(1), &tension, &[], &mut out);
+    assert_eq!(answer.err().and_then(|r| r.named()), Some(Question::Field));
+    print(answer);
+    // one byte more than a schedule may have, so that a longer one is refused and not cut
     let mut schedule = Vec::new();
-    std::io::stdin().take(60_001).read_to_end(&mut schedule).expect("standard input is read");
+    let mut input = std::io::stdin().take(LONGEST_SCHEDULE as u64 + 1);
+    input.read_to_end(&mut schedule).expect("standard input is read");
     print(koxaltes::report(&schedule, &mut out));
 }

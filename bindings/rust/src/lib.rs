@@ -1,14 +1,87 @@
-//! Koxaltes, a proved checker of reinforcement schedules, for Rust callers.
+//! Koxaltes, a proved checker of reinforcement schedules, for Rust callers. The manual is `docs/MANUAL.md`.
 //!
-//! Every function takes any input. What each yields is proved: `crates/koxaltes/src/lib.rt` has the contracts.
+//! Every function takes any input. What each yields is proved: `crates/koxaltes/src/lib.rt` has the contracts. This wrapper is
+//! written by hand. It links a static library for x86-64 Linux (System V AMD64 calling convention).
+//!
+//! `Ok` says that the input was accepted. It does not say that a member's line says OK: read the line.
 
 pub mod raw;
 
-pub use raw::{Group, Member};
+pub use raw::{Group, Member, FIELDS};
 
+/// The version of the interface, the same as in `bindings/c/koxaltes.h`, which says what a change of each part means.
+pub const VERSION: &str = env!("CARGO_PKG_VERSION");
+
+/// The longest schedule that is not refused for its size alone (question 1), in bytes.
+pub const LONGEST_SCHEDULE: usize = 60_000;
 /// The longest report, and the longest line of one member, in bytes.
 pub const LONGEST_REPORT: usize = 27_555;
 pub const LONGEST_LINE: usize = 55;
+/// The most members of a schedule, and the most groups of one list.
+pub const MOST_MEMBERS: usize = 500;
+pub const MOST_GROUPS: usize = 4;
+
+/// The kinds of members, by their numbers.
+#[repr(u32)]
+#[derive(Clone, Copy, Debug, PartialEq, Eq)]
+#[non_exhaustive]
+pub enum Kind {
+    Beam = 1,
+    Column = 2,
+    Mesh = 3,
+}
+
+/// The questions, by their numbers. Each says what is so where it is answered no.
+#[repr(u32)]
+#[derive(Clone, Copy, Debug, PartialEq, Eq)]
+#[non_exhaustive]
+pub enum Question {
+    /// The schedule has more than 60,000 bytes.
+    Size = 1,
+    /// The schedule ends inside a number, or where one is due.
+    NumberEnds = 2,
+    /// A number of more than five bytes, of 2^32 or more, or not in its shortest form.
+    NumberForm = 3,
+    /// More than 500 members.
+    Count = 4,
+    /// A mark out of range, or not above the one before it.
+    Mark = 5,
+    /// An unknown kind.
+    Kind = 6,
+    /// A field or a group out of range; a count above the length of its list.
+    Field = 7,
+    /// Fields that do not fit together.
+    Consistency = 8,
+    /// More than 40 bars on a face of a beam, or in a column.
+    Bars = 9,
+    /// More than 4 percent of tension steel in a beam.
+    Ratio = 10,
+    /// Bytes after the last member.
+    Trailing = 11,
+    /// The text is longer than the buffer.
+    Buffer = 12,
+}
+
+impl Question {
+    /// The question of a number; none for 0 and for a number that this version does not know.
+    pub fn of(number: u32) -> Option<Question> {
+        Some(match number {
+            1 => Question::Size,
+            2 => Question::NumberEnds,
+            3 => Question::NumberForm,
+            4 => Question::Count,
+            5 => Question::Mark,
+            6 => Question::Kind,
+            7 => Question::Field,
+            8 => Question::Consistency,
+            9 => Question::Bars,
+            10 => Question::Ratio,
+            11 => Question::Trailing,
+            12 => Question::Buffer,
+            _ => return None,
+        })
+    }
+}
 
 /// The number of the question answered no, and the member it names.
 #[derive(Clone, Copy, Debug, PartialEq, Eq)]
@@ -17,8 +90,16 @@ pub struct Refusal {
     pub member: u32,
 }
 
+impl Refusal {
+    /// The question by its name.
+    pub fn named(&self) -> Option<Question> {
+        Question::of(self.question)
+    }
+}
+
 /// Beams: moment, shear, width, deflection; columns: axial force first; meshes: anchorage, lap.
 /// Each is at most 1.0 exactly where its check holds; `None` where it was not reached or its divisor is 0.
+/// A member whose check without a figure fails may have none above 1.0: whether it is OK is said by its line alone.
 #[derive(Clone, Copy, Debug, PartialEq)]
 pub struct Utilization {
     pub places: [Option<f64>; 4],
@@ -96,10 +177,10 @@ pub struct Mesh {
     pub lap_given: u32,
 }
 
-fn built(mark: u32, kind: u32, used: &[u32]) -> Member {
-    let mut fields = [0; 24];
+fn built(mark: u32, kind: Kind, used: &[u32]) -> Member {
+    let mut fields = [0; FIELDS];
     fields[..used.len()].copy_from_slice(used);
-    Member { mark, kind, fields }
+    Member { mark, kind: kind as u32, fields }
 }
 
 impl Beam {
@@ -107,7 +188,7 @@ impl Beam {
         let x = self;
         built(
             mark,
-            1,
+            Kind::Beam,
             &[
                 x.b,
                 x.h,
@@ -141,7 +222,7 @@ impl Column {
         let links = [x.link_diameter, x.link_spacing];
         built(
             mark,
-            2,
+            Kind::Column,
             &[x.b, x.h, x.concrete, x.steel, x.groups, links[0], links[1], x.l0, x.n],
         )
     }
@@ -152,12 +233,12 @@ impl Mesh {
         let x = self;
         let bars = [x.family, x.concrete, x.diameter, x.cross_bar, x.paired, x.apart];
         let rest = [x.seismic, x.lap, x.compression, x.anchorage_given, x.lap_given];
-        built(mark, 3, &[&bars[..], &rest[..]].concat())
+        built(mark, Kind::Mesh, &[&bars[..], &rest[..]].concat())
     }
 }
 
 fn written(answer: raw::Answer, out: &[u8]) -> Result<&[u8], Refusal> {
-    if answer.question == 0 {
+    if answer.question == raw::ACCEPTED {
         Ok(&out[..answer.length])
     } else {
         Err(Refusal { question: answer.question, member: answer.member })
@@ -196,7 +277,8 @@ pub fn member_report<'a>(
     written(answer, out)
 }
 
-/// The utilizations of one built member, its lists as for `member_report`.
+/// The utilizations of one built member, its lists as for `member_report`. The floating-point rounding mode has to be the
+/// default one, to nearest.
 pub fn member_utilization(
     member: &Member,
     first: &[Group],
@@ -212,7 +294,7 @@ pub fn member_utilization(
             second.len(),
         )
     };
-    if a.question != 0 {
+    if a.question != raw::ACCEPTED {
         return Err(Refusal { question: a.question, member: a.member });
     }
     let u = a.utilization;
@@ -232,7 +314,7 @@ pub fn member_utilization(
 pub fn bar_totals(groups: &[Group], count: usize) -> Result<BarTotals, Refusal> {
     // SAFETY: the pointer is valid for its length.
     let a = unsafe { raw::koxaltes_bar_totals(groups.as_ptr(), groups.len(), count) };
-    if a.question != 0 {
+    if a.question != raw::ACCEPTED {
         return Err(Refusal { question: a.question, member: a.member });
     }
     Ok(BarTotals { bars: a.bars, area: a.area, diameters: a.diameters, squares: a.squares })

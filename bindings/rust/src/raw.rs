@@ -1,5 +1,11 @@
 //! The static library's entries as they are: `bindings/c/koxaltes.h` in Rust.
 
+/// What an answer's `question` holds where no question was answered no; the others are `Question`'s numbers.
+pub const ACCEPTED: u32 = 0;
+
+/// Places for a built member's fields; a kind has at most 21.
+pub const FIELDS: usize = 24;
+
 /// Bars of one diameter (mm).
 #[repr(C)]
 #[derive(Clone, Copy, Debug, PartialEq, Eq)]
@@ -14,7 +20,7 @@ pub struct Group {
 pub struct Member {
     pub mark: u32,
     pub kind: u32,
-    pub fields: [u32; 24],
+    pub fields: [u32; FIELDS],
 }
 
 /// Question 0: written, with the text's length. Any other: the question answered no, and its member.
@@ -26,7 +32,7 @@ pub struct Answer {
     pub length: usize,
 }
 
-/// A mark is false, and its value 0.0, where the check was not reached or the divisor is 0.
+/// A flag is false, and its value 0.0, where the check was not reached or the divisor is 0.
 #[repr(C)]
 #[derive(Clone, Copy, Debug, PartialEq)]
 pub struct Utilization {
@@ -62,6 +68,38 @@ pub struct BarTotalsAnswer {
     pub diameters: u64,
     pub squares: u64,
 }
+
+// The layout of each struct, as the library has it. It is part of the binary interface: this version keeps it.
+const _: () = {
+    use std::mem::{offset_of, size_of};
+    assert!(size_of::<Group>() == 8);
+    assert!(offset_of!(Group, bars) == 4);
+    assert!(size_of::<Member>() == 104);
+    assert!(offset_of!(Member, kind) == 4);
+    assert!(offset_of!(Member, fields) == 8);
+    assert!(size_of::<Answer>() == 16);
+    assert!(offset_of!(Answer, member) == 4);
+    assert!(offset_of!(Answer, length) == 8);
+    assert!(size_of::<Utilization>() == 40);
+    assert!(offset_of!(Utilization, second) == 8);
+    assert!(offset_of!(Utilization, third) == 16);
+    assert!(offset_of!(Utilization, fourth) == 24);
+    assert!(offset_of!(Utilization, first_reached) == 32);
+    assert!(offset_of!(Utilization, second_reached) == 33);
+    assert!(offset_of!(Utilization, third_reached) == 34);
+    assert!(offset_of!(Utilization, fourth_reached) == 35);
+    assert!(size_of::<UtilizationAnswer>() == 64);
+    assert!(offset_of!(UtilizationAnswer, member) == 4);
+    assert!(offset_of!(UtilizationAnswer, utilization) == 8);
+    assert!(offset_of!(UtilizationAnswer, governs) == 48);
+    assert!(offset_of!(UtilizationAnswer, governing) == 56);
+    assert!(size_of::<BarTotalsAnswer>() == 40);
+    assert!(offset_of!(BarTotalsAnswer, member) == 4);
+    assert!(offset_of!(BarTotalsAnswer, bars) == 8);
+    assert!(offset_of!(BarTotalsAnswer, area) == 16);
+    assert!(offset_of!(BarTotalsAnswer, diameters) == 24);
+    assert!(offset_of!(BarTotalsAnswer, squares) == 32);
+};
 
 extern "C" {
     pub fn koxaltes_report(

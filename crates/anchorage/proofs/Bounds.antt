@@ -9,8 +9,8 @@ use lib.Dec.{eqb}
 use Rattle.quantity.specs.Choice.{if_then_else_}
 use Rattle.quantity.proofs.Choice.{choice-most}
 use Rattle.quantity.proofs.Rounding.{up-le}
-use Rattle.standard.specs.Mesh.{multiple}
-use Rattle.standard.proofs.Mesh.{multiple-between}
+use Rattle.code_tables.specs.Mesh.{multiple}
+use Rattle.code_tables.proofs.Mesh.{multiple-between}
 use Rattle.member.specs.Member.{Mesh}
 use Rattle.member.specs.Accepted.{AcceptedMesh}
 use Rattle.anchorage.specs.Steps.{pairedTenths, apartTenths, seismicHundredths, basicLength, anchorageLength}

@@ -7,7 +7,7 @@ use lib.Dec.{eqb}
 use Rattle.quantity.specs.Choice.{if_then_else_}
 use Rattle.quantity.specs.Fraction.{Frac, _//_, whole, _⊗_, larger}
 use Rattle.quantity.proofs.Fraction.{Same, same-refl, same-sym, same-trans, same-product, same-larger, level}
-use Rattle.standard.specs.Mesh.{multiple}
+use Rattle.code_tables.specs.Mesh.{multiple}
 use Rattle.member.specs.Member.{Mesh}
 use Rattle.anchorage.specs.Steps.{seismicHundredths, basicLength, anchorageLength}
 use Rattle.anchorage.specs.Exact.{seismicFactor, exactBasic, exactAnchorage}

@@ -5,7 +5,7 @@ use mathlib.Core.Bool.{_||_}
 use lib.Dec.{eqb}
 use Rattle.quantity.specs.Choice.{if_then_else_}
 use Rattle.quantity.specs.Rounding.{up}
-use Rattle.standard.specs.Mesh.{multiple}
+use Rattle.code_tables.specs.Mesh.{multiple}
 use Rattle.member.specs.Member.{Mesh}
 
 -- in tenths: 1.4 if paired; 0.8 if apart

@@ -4,12 +4,12 @@ ghost use Prim.Native.Nat.{_≤_};
 ghost use Rattle.member.specs.Member.{meshOf};
 ghost use Rattle.member.specs.Accepted.{AcceptedMesh};
 ghost use Rattle.anchorage.specs.Steps.{seismicHundredths, basicLength, anchorageLength};
+use code_tables::multiple_of;
 use member::Mesh;
 use quantity::Length;
-use quantity::chosen;
 use quantity::div_up;
 use quantity::larger;
-use standard::multiple_of;
+use quantity::select;
 
 // 1.15 for seismic 1 and 2, 1.05 for 3, in hundredths.
 fn seismic_factor(seismic: u32) -> u64
@@ -28,8 +28,8 @@ pub fn basic_length(x: Mesh, cross: u32, apart: u32) -> u64
     ensures { λ r. ⌜ r ≡ basicLength cross apart (meshOf x) ⌝ }
 {
     let multiple = multiple_of(x.family, cross, x.concrete) as u64;
-    let paired = chosen(x.paired == 1, 14, 10);
-    let spaced = chosen(apart == 1, 8, 10);
+    let paired = select(x.paired == 1, 14, 10);
+    let spaced = select(apart == 1, 8, 10);
     let plain = multiple * x.d.in_millimetres() * paired * spaced;
     larger(20000, plain) * seismic_factor(x.seismic)
 }

@@ -44,7 +44,7 @@ pub fn slenderness_fits(x: Column) -> bool
     requires { ⌜ AcceptedColumn (columnOf x) ⌝ }
     ensures { λ r. ⌜ r ≡ slendernessFits (columnOf x) ⌝ }
 {
-    x.span.in_millimetres() <= 50 * x.b.in_millimetres()
+    x.l0.in_millimetres() <= 50 * x.b.in_millimetres()
 }
 
 // The area of the concrete, in tenths of mm².
@@ -75,7 +75,7 @@ pub fn axial_capacity(x: Column, concrete: Concrete, steel: Steel) -> Force
     ensures { λ r. ⌜ r .0 ≡ axialCapacity (columnOf x) concrete steel ⌝ }
 {
     let b = x.b.in_millimetres();
-    let stability = stability_of(x.span.in_millimetres(), b);
+    let stability = stability_of(x.l0.in_millimetres(), b);
     let load = squash_load(x, concrete, steel);
     Force::of_newtons(div_down(9 * stability * load, 200000 * b))
 }

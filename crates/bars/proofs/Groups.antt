@@ -9,7 +9,7 @@ use native.Mathlib.Decide.{decLe}
 use lib.ListN.{length, take, getD, length-take}
 use lib.Seq.{take-suc, take-take, take-all, getD-take}
 use Rattle.quantity.proofs.All.{all-take, all-at}
-use Rattle.standard.proofs.Bars.{area-most}
+use Rattle.code_tables.proofs.Bars.{area-most}
 use Rattle.bars.specs.declared.Group.{Group}
 use Rattle.bars.specs.declared.Totals.{Totals}
 use Rattle.bars.specs.Sums.{sumOver, barsOf, groupArea, groupDiameters, groupSquares, barCount, area, sumD, sumE, largest, smallest, smallestUpTo, added, TotalsOf, TotalsFit}

@@ -3,7 +3,7 @@
 use Prim.Native.Nat.{ℕ, _≤_, _<_}
 use mathlib.Core.List.{List}
 use Rattle.quantity.specs.All.{All}
-use Rattle.standard.specs.Bars.{areaOf}
+use Rattle.code_tables.specs.Bars.{areaOf}
 use Rattle.bars.specs.declared.Group.{Group}
 
 -- a diameter of the table from lo to hi

@@ -2,7 +2,7 @@
 use Prim.Native.Nat.{ℕ, _+_, _*_, _^_, _<_, min, max}
 use mathlib.Core.Path.{_≡_}
 use mathlib.Core.List.{List, [], _∷_}
-use Rattle.standard.specs.Bars.{areaOf}
+use Rattle.code_tables.specs.Bars.{areaOf}
 use Rattle.bars.specs.declared.Group.{Group}
 use Rattle.bars.specs.declared.Totals.{Totals}
 

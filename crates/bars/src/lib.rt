@@ -4,10 +4,10 @@ ghost use Prim.Native.Nat.{min};
 ghost use lib.ListN.{take};
 ghost use Rattle.bars.specs.Sums.{barCount, area, groupArea, groupDiameters, groupSquares, added, TotalsFit, TotalsOf};
 ghost use Rattle.bars.specs.Accepted.{AcceptedGroup, AcceptedGroups};
+use code_tables::bar_area;
 use quantity::larger;
 use quantity::smaller;
-use quantity::wide;
-use standard::bar_area;
+use quantity::widen;
 
 // Bars of one diameter (mm).
 #[repr(C)]
@@ -30,20 +30,20 @@ fn group_area(g: Group) -> u64
     requires { ⌜ AcceptedGroup g ⌝ }
     ensures { λ r. ⌜ r ≡ groupArea g ⌝ }
 {
-    wide(g.bars) * wide(bar_area(g.diameter))
+    widen(g.bars) * widen(bar_area(g.diameter))
 }
 
 fn group_diameters(g: Group) -> u64
     ensures { λ r. ⌜ r ≡ groupDiameters g ⌝ }
 {
-    wide(g.bars) * wide(g.diameter)
+    widen(g.bars) * widen(g.diameter)
 }
 
 fn group_squares(g: Group) -> u64
     requires { ⌜ AcceptedGroup g ⌝ }
     ensures { λ r. ⌜ r ≡ groupSquares g ⌝ }
 {
-    wide(g.bars) * (wide(g.diameter) * wide(g.diameter))
+    widen(g.bars) * (widen(g.diameter) * widen(g.diameter))
 }
 
 // The totals with one group more.
@@ -52,12 +52,12 @@ fn with_group(t: Totals, g: Group) -> Totals
     ensures { λ r. ⌜ r ≡ added t g ⌝ }
 {
     Totals {
-        bars: t.bars + wide(g.bars),
+        bars: t.bars + widen(g.bars),
         area: t.area + group_area(g),
         diameters: t.diameters + group_diameters(g),
         squares: t.squares + group_squares(g),
-        largest: larger(t.largest, wide(g.diameter)),
-        smallest: smaller(t.smallest, wide(g.diameter)),
+        largest: larger(t.largest, widen(g.diameter)),
+        smallest: smaller(t.smallest, widen(g.diameter)),
     }
 }
 

@@ -5,12 +5,12 @@ use mathlib.Core.Bool.{Bool}
 use borrow.Author.Tests.{le-leb, lt-leb}
 use Rattle.quantity.specs.Choice.{if_then_else_}
 use Rattle.outcome.specs.declared.Check.{Check}
-use Rattle.outcome.specs.declared.Check.the-variants.{Shear, Bending, ShallowBending}
+use Rattle.outcome.specs.declared.Check.the-variants.{Shear, Bending, CoupleBending}
 use Rattle.outcome.specs.declared.Outcome.{Outcome}
 use Rattle.outcome.specs.Outcome.{oneFigure, twoFigures}
 use Rattle.section.specs.declared.Section.{Section}
 use Rattle.section.specs.Section.{M, Vd}
-use Rattle.bending.specs.Steps.{isDeep, bendingCapacity}
+use Rattle.bending.specs.Steps.{compressionYields, bendingCapacity}
 use Rattle.shear.specs.Steps.{shearCapacity}
 use Rattle.beam.specs.Checks.{fromSpacing, fromShear, fromBending}
 
@@ -28,7 +28,7 @@ module _ (x : Section) (m : ℕ) (o : Outcome) (p : m ≡ bendingCapacity x) whe
   unfolding fromBending
   bending-holds h e = rw (← p, le-leb (M x) m h) e
 
-  pub bending-fails : (d : Bool) (k : Check) → m < M x → d ≡ isDeep x → k ≡ (if d then Bending else ShallowBending) →
+  pub bending-fails : (d : Bool) (k : Check) → m < M x → d ≡ compressionYields x → k ≡ (if d then Bending else CoupleBending) →
       o ≡ oneFigure k m → o ≡ fromBending x
   unfolding fromBending
   bending-fails d k h i j e = rw (← p, lt-leb (M x) m h, ← i, ← j) e

@@ -16,9 +16,9 @@ use Rattle.section.specs.declared.Section.{Section}
 use Rattle.section.specs.Section.{sectionOf, G, S, M, Vd}
 use Rattle.section.specs.Bounded.{Bounded}
 use Rattle.section.proofs.Bounded.{bounded}
-use Rattle.bending.specs.Steps.{isDeep, bendingCapacity}
+use Rattle.bending.specs.Steps.{compressionYields, bendingCapacity}
 use Rattle.bending.proofs.Tests.{least-steel-reflects, depth-reflects}
-use Rattle.bending.proofs.Exact.{deep-is, moment-safe}
+use Rattle.bending.proofs.Exact.{yields-is, moment-safe}
 use Rattle.shear.specs.Steps.{shearCapacity}
 use Rattle.shear.proofs.Tests.{link-spacing-reflects, least-links-reflects}
 use Rattle.shear.proofs.Exact.{shear-safe}
@@ -28,7 +28,7 @@ use Rattle.deflection.specs.Steps as steps
 use Rattle.deflection.proofs.Safe.{deflection-settles}
 use Rattle.serviceability.specs.Checks.{fromDeflection, fromWidth, fromStress}
 use Rattle.beam.specs.Checks.{fromLeastLinks, fromSpacing, fromShear, fromBending, fromDepth, sectionOutcome, beamOutcome}
-use Rattle.beam.specs.Exact.{BeamHolds, MayName, least-steel, depth, bending, shallow-bending, shear, spacing, least-links, stress, width, deflection}
+use Rattle.beam.specs.Exact.{BeamHolds, MayName, least-steel, depth, bending, couple-bending, shear, spacing, least-links, stress, width, deflection}
 
 abbrev pub BeamSays : Section → Check → Type 0
 BeamSays x = Says (BeamHolds x) (MayName x)
@@ -50,9 +50,9 @@ unfolding sectionOutcome fromDepth fromBending fromShear fromSpacing fromLeastLi
 section-way x a =
     settled-case (WayOut x) (least-steel-reflects x) (λ n. no-figure (failed refl (least-steel n))) λ p-steel.
     settled-case (WayOut x) (depth-reflects x) (λ n. no-figure (failed refl (depth n))) λ p-depth.
-    settled-case (WayOut x) (capacity-settles (M x) (moment-safe a)) (λ n. to-moment (if-case (BeamSays x) (isDeep x) _ _
-    (λ d. failed refl (bending (deep-is a ∙ d) n))
-    (λ d. failed refl (shallow-bending (deep-is a ∙ d) n)))) λ p-bending.
+    settled-case (WayOut x) (capacity-settles (M x) (moment-safe a)) (λ n. to-moment (if-case (BeamSays x) (compressionYields x) _ _
+    (λ d. failed refl (bending (yields-is a ∙ d) n))
+    (λ d. failed refl (couple-bending (yields-is a ∙ d) n)))) λ p-bending.
     settled-case (WayOut x) (capacity-settles (Vd x) (shear-safe a)) (λ n. to-shear (failed refl (shear n))) λ p-shear.
     settled-case (WayOut x) (link-spacing-reflects x) (λ n. to-shear (failed refl (spacing n))) λ p-spacing.
     settled-case (WayOut x) (least-links-reflects x) (λ n. to-shear (failed refl (least-links n))) λ p-links.

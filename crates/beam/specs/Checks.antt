@@ -3,13 +3,13 @@
 use Prim.Native.Nat.{ℕ}
 use lib.Dec.{leb}
 use Rattle.quantity.specs.Choice.{if_then_else_}
-use Rattle.outcome.specs.declared.Check.the-variants.{LeastSteel, CompressionDepth, Bending, ShallowBending, Shear, LinkSpacing, LeastLinks}
+use Rattle.outcome.specs.declared.Check.the-variants.{LeastSteel, CompressionDepth, Bending, CoupleBending, Shear, LinkSpacing, LeastLinks}
 use Rattle.outcome.specs.declared.Outcome.{Outcome}
 use Rattle.outcome.specs.Outcome.{noFigure, oneFigure, twoFigures}
 use Rattle.member.specs.Member.{Beam}
 use Rattle.section.specs.declared.Section.{Section}
 use Rattle.section.specs.Section.{sectionOf, M, Vd}
-use Rattle.bending.specs.Steps.{leastSteel, compressionDepth, isDeep, bendingCapacity}
+use Rattle.bending.specs.Steps.{leastSteel, compressionDepth, compressionYields, bendingCapacity}
 use Rattle.shear.specs.Steps.{shearCapacity, linkSpacing, leastLinks}
 use Rattle.serviceability.specs.Checks.{fromStress}
 
@@ -37,7 +37,7 @@ unfoldable pub fromBending : Section → Outcome
 fromBending x =
     if leb (M x) (bendingCapacity x)
     then fromShear x (bendingCapacity x)
-    else oneFigure (if isDeep x then Bending else ShallowBending) (bendingCapacity x)
+    else oneFigure (if compressionYields x then Bending else CoupleBending) (bendingCapacity x)
 
 unfoldable pub fromDepth : Section → Outcome
 fromDepth x = if compressionDepth x then fromBending x else noFigure CompressionDepth

@@ -8,7 +8,7 @@ use Rattle.outcome.specs.declared.Check.the-variants.{
   LeastSteel,
   CompressionDepth,
   Bending,
-  ShallowBending,
+  CoupleBending,
   Shear,
   LinkSpacing,
   LeastLinks,
@@ -20,7 +20,7 @@ use Rattle.outcome.specs.declared.Outcome.{Outcome}
 use Rattle.outcome.specs.Safe.{Place, capacity, extent, Safe}
 use Rattle.section.specs.declared.Section.{Section}
 use Rattle.section.specs.Section.{M, Vd}
-use Rattle.bending.specs.Exact.{deep, exactMoment, LeastSteelHolds, DepthHolds, BendingHolds}
+use Rattle.bending.specs.Exact.{yields, exactMoment, LeastSteelHolds, DepthHolds, BendingHolds}
 use Rattle.shear.specs.Exact.{exactShear, ShearHolds, LinkSpacingHolds, LeastLinksHold}
 use Rattle.cracking.specs.Exact.{exactWidth, exactWidthLimit, inThousandths, StressHolds, WidthHolds}
 use Rattle.deflection.specs.Exact.{exactDeflection, exactDeflectionLimit, inHundredthsOfMm, DeflectionHolds}
@@ -56,8 +56,8 @@ pub data MayName (x : Section) : Check → Type 0 where
   none : MayName x Passed
   least-steel : (LeastSteelHolds x → ⊥) → MayName x LeastSteel
   depth : (DepthHolds x → ⊥) → MayName x CompressionDepth
-  bending : deep x ≡ true → exactMoment x ⊖ whole (M x) ≺ whole 1 → MayName x Bending
-  shallow-bending : deep x ≡ false → exactMoment x ⊖ whole (M x) ≺ whole 1 → MayName x ShallowBending
+  bending : yields x ≡ true → exactMoment x ⊖ whole (M x) ≺ whole 1 → MayName x Bending
+  couple-bending : yields x ≡ false → exactMoment x ⊖ whole (M x) ≺ whole 1 → MayName x CoupleBending
   shear : exactShear x ⊖ whole (Vd x) ≺ whole 2 → MayName x Shear
   spacing : (LinkSpacingHolds x → ⊥) → MayName x LinkSpacing
   least-links : (LeastLinksHold x → ⊥) → MayName x LeastLinks

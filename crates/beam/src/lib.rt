@@ -11,7 +11,7 @@ ghost use Rattle.quantity.specs.Choice.{if_then_else_};
 ghost use Rattle.beam.specs.Checks.{fromLeastLinks, fromSpacing, fromShear, fromBending, fromDepth, sectionOutcome, beamOutcome};
 use bending::bending_capacity;
 use bending::compression_depth;
-use bending::is_deep;
+use bending::compression_yields;
 use bending::least_steel;
 use member::Beam;
 use outcome::Check;
@@ -55,11 +55,11 @@ fn from_shear(x: Section, moment: u64) -> Outcome
     requires { ⌜ (Bounded x) × (G x ≤ 50 * S x) ⌝ }
     ensures { λ r. ⌜ r ≡ fromShear x moment ⌝ }
 {
-    let shear = shear_capacity(x);
-    if x.v.0 <= shear.0 {
-        from_spacing(x, moment, shear.0)
+    let shear = shear_capacity(x).in_newtons();
+    if x.v.in_newtons() <= shear {
+        from_spacing(x, moment, shear)
     } else {
-        two_figures(Check::Shear, moment, shear.0)
+        two_figures(Check::Shear, moment, shear)
     }
 }
 
@@ -69,21 +69,21 @@ fn from_bending(x: Section) -> Outcome
     ensures { λ r. ⌜ r ≡ fromBending x ⌝ }
 {
     let moment = bending_capacity(x);
-    if x.m <= moment {
+    if x.M <= moment {
         from_shear(x, moment)
     } else {
-        one_figure(bending_check(is_deep(x)), moment)
+        one_figure(bending_check(compression_yields(x)), moment)
     }
 }
 
 // The bending check by its name: 4.2.2, or 4.2.3.
-fn bending_check(deep: bool) -> Check
-    ensures { λ r. ⌜ r ≡ (if deep then Check.Bending else Check.ShallowBending) ⌝ }
+fn bending_check(yields: bool) -> Check
+    ensures { λ r. ⌜ r ≡ (if yields then Check.Bending else Check.CoupleBending) ⌝ }
 {
-    if deep {
+    if yields {
         Check::Bending
     } else {
-        Check::ShallowBending
+        Check::CoupleBending
     }
 }
 

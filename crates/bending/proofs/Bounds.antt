@@ -15,28 +15,28 @@ pub record Sizes (x : Section) : Type 0 where
   -- the forces
   pub tension : tensionForce x ≤ 480000000
   pub compression : compressionForce x ≤ 480000000
-  pub crushing-least : 1 ≤ k x
-  pub crushing-most : k x ≤ 400000
+  pub block-least : 1 ≤ k x
+  pub block-most : k x ≤ 400000
   -- 4.2.2-3, 4.2.2, 4.2.3
   pub depth : e x * h₀ x ≤ 200000
   pub limit : e x * h₀ x * k x ≤ 80000000000
   pub reach : 2 * a′ x * k x ≤ 1600000000
-  pub shallow : tensionForce x * (h₀ x - a′ x) ≤ 960000000000
+  pub couple : tensionForce x * (h₀ x - a′ x) ≤ 960000000000
 
 pub sizes : {x : Section} → Bounded x → Sizes x
 sizes {x} p =
     let tension = mul-le-mul (p .steel .fy .most) (p .S-most) in
-    let crushing = mul-le-mul (p .concrete .fc-most) (p .b-most) in
-    let depth = mul-le-mul (p .steel .depth) (p .h₀-most) in
+    let block-force = mul-le-mul (p .concrete .fc-most) (p .b-most) in
+    let depth = mul-le-mul (p .steel .depthLimit) (p .h₀-most) in
     record {
       concrete = product-most (45 * ft x) (G x) 18000 5000000 (omega (arith, p .concrete));
       steel = product-most (1000 * S x) (fy x) 800000000 600 (omega (arith, p .steel .fy));
       tension = tension;
       compression = mul-le-mul (p .steel .fyc .most) (p .S′-most);
-      crushing-least = mul-pos (p .concrete .fc-least) (omega arith);
-      crushing-most = crushing;
+      block-least = mul-pos (p .concrete .fc-least) (omega arith);
+      block-most = block-force;
       depth = depth;
-      limit = mul-le-mul depth crushing;
+      limit = mul-le-mul depth block-force;
       reach = product-most (2 * a′ x) (k x) 4000 400000 (omega arith);
-      shallow = product-most (tensionForce x) (h₀ x - a′ x) 480000000 2000 (omega arith);
+      couple = product-most (tensionForce x) (h₀ x - a′ x) 480000000 2000 (omega arith);
     }

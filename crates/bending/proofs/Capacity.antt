@@ -11,9 +11,9 @@ use Rattle.quantity.proofs.Rounding.{expand, up-le, down-le, down-minus-up}
 use Rattle.section.specs.declared.Section.{Section}
 use Rattle.section.specs.Section.{h₀, a′, e}
 use Rattle.section.specs.Bounded.{Bounded}
-use Rattle.bending.specs.Steps.{tensionForce, compressionForce, t, k, steelMoment, compressionDepth, isDeep, deepCapacity, shallowCapacity, bendingCapacity}
+use Rattle.bending.specs.Steps.{tensionForce, compressionForce, t, k, steelMoment, compressionDepth, compressionYields, yieldedCapacity, coupleCapacity, bendingCapacity}
 use Rattle.bending.proofs.Bounds.{sizes}
-use Rattle.bending.proofs.Tests.{depth-reflects, deep-tension}
+use Rattle.bending.proofs.Tests.{depth-reflects, yields-tension}
 
 -- On plain numbers: p and q are the forces of the tension and compression steel, g = h0 - a'.
 depth-core : (p q k h e : ℕ) → e ≤ 100 → 100 * p ≤ e * h * k + 100 * q → p - q ≤ h * k
@@ -33,24 +33,24 @@ module _ {x : Section} (p : Bounded x) (d : compressionDepth x ≡ true) where
   pub square-within : t x * t x ≤ steelMoment x * (2 * k x)
   square-within =
       square-core (t x) (k x) (h₀ x) (compressionForce x * (h₀ x - a′ x))
-      (depth-core (tensionForce x) (compressionForce x) (k x) (h₀ x) (e x) (p .steel .depth) (depth-reflects x .holds d))
+      (depth-core (tensionForce x) (compressionForce x) (k x) (h₀ x) (e x) (p .steel .depthLimit) (depth-reflects x .holds d))
 
   pub rounded-within : up (t x * t x) (2 * k x) ≤ steelMoment x
   rounded-within = up-le (omega (arith, sizes p)) square-within
 
-  pub deep-value : deepCapacity x ≡ down (steelMoment x - up (t x * t x) (2 * k x)) 10000
-  unfolding deepCapacity
-  deep-value = down-minus-up (steelMoment x) (t x * t x) (omega (arith, sizes p)) (omega arith) square-within
+  pub yielded-value : yieldedCapacity x ≡ down (steelMoment x - up (t x * t x) (2 * k x)) 10000
+  unfolding yieldedCapacity
+  yielded-value = down-minus-up (steelMoment x) (t x * t x) (omega (arith, sizes p)) (omega arith) square-within
 
 module _ {x : Section} (p : Bounded x) where
-  pub steel-most : isDeep x ≡ true → steelMoment x ≤ 960000000000
+  pub steel-most : compressionYields x ≡ true → steelMoment x ≤ 960000000000
   steel-most s =
-      steel-core (tensionForce x) (compressionForce x) (h₀ x) (h₀ x - a′ x) (deep-tension p s) (omega arith) (sizes p .tension) (p .h₀-most)
+      steel-core (tensionForce x) (compressionForce x) (h₀ x) (h₀ x - a′ x) (yields-tension p s) (omega arith) (sizes p .tension) (p .h₀-most)
 
   -- A moment capacity has at most eight digits.
   pub capacity-most : bendingCapacity x ≤ 96000000
-  unfolding bendingCapacity deepCapacity shallowCapacity
+  unfolding bendingCapacity yieldedCapacity coupleCapacity
   capacity-most =
-      if-case (λ (n : ℕ). n ≤ 96000000) (isDeep x) _ _
+      if-case (λ (n : ℕ). n ≤ 96000000) (compressionYields x) _ _
       (λ s. down-le (omega (arith, sizes p)) (omega (arith, mul-le-mul-right (2 * k x) (steel-most s))))
-      (λ s. down-le (omega arith) (sizes p .shallow))
+      (λ s. down-le (omega arith) (sizes p .couple))

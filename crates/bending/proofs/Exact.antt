@@ -17,10 +17,10 @@ use Rattle.quantity.proofs.Safe.{down-not-above, same-not-above}
 use Rattle.section.specs.declared.Section.{Section}
 use Rattle.section.specs.Section.{b, h₀, a′, S, S′}
 use Rattle.section.specs.Bounded.{Bounded}
-use Rattle.bending.specs.Steps.{tensionForce, compressionForce, t, k, steelMoment, compressionDepth, isDeep, deepCapacity, shallowCapacity, bendingCapacity}
-use Rattle.bending.specs.Exact.{T, C, K, atMost, deep, deepMoment, shallowMoment, exactMoment}
+use Rattle.bending.specs.Steps.{tensionForce, compressionForce, t, k, steelMoment, compressionDepth, compressionYields, yieldedCapacity, coupleCapacity, bendingCapacity}
+use Rattle.bending.specs.Exact.{T, C, K, atMost, yields, yieldedMoment, coupleMoment, exactMoment}
 use Rattle.bending.proofs.Bounds.{sizes}
-use Rattle.bending.proofs.Tests.{deep-tension}
+use Rattle.bending.proofs.Tests.{yields-tension}
 use Rattle.bending.proofs.Capacity.{square-within}
 
 -- ---- Forces in tenths of N: their differences, sums and products.
@@ -41,13 +41,13 @@ square-tenths : (t k : ℕ) → 0 < k → Same (t // 10 ⊗ (t // 10) ⊘ (whole
 unfolding _⊗_ _⊘_
 square-tenths t k p = record { pos = omega arith; pos′ = omega arith; same = simp expand (omega arith) }
 
-deep-tenths : (m y k : ℕ) → 0 < k → Same ((m // 10 ⊖ y // (20 * k)) ⊘ whole 1000) ((m * (2 * k) - y) // (2 * k * 10000))
+yielded-tenths : (m y k : ℕ) → 0 < k → Same ((m // 10 ⊖ y // (20 * k)) ⊘ whole 1000) ((m * (2 * k) - y) // (2 * k * 10000))
 unfolding _⊖_ _⊘_
-deep-tenths m y k p = record { pos = omega arith; pos′ = omega arith; same = simp level (omega arith) }
+yielded-tenths m y k p = record { pos = omega arith; pos′ = omega arith; same = simp level (omega arith) }
 
-shallow-tenths : (p g : ℕ) → Same (p // 10 ⊗ whole g ⊘ whole 1000) ((p * g) // 10000)
+couple-tenths : (p g : ℕ) → Same (p // 10 ⊗ whole g ⊘ whole 1000) ((p * g) // 10000)
 unfolding _⊗_ _⊘_
-shallow-tenths p g = record { pos = omega arith; pos′ = omega arith; same = omega arith }
+couple-tenths p g = record { pos = omega arith; pos′ = omega arith; same = omega arith }
 
 -- ---- A comparison of two fractions by their numerators over one denominator.
 
@@ -75,9 +75,9 @@ module _ {x : Section} (p : Bounded x) where
   t-same = same-trans (same-difference T-same C-same) (difference-tenths (tensionForce x) (compressionForce x))
 
   -- Both definitions pick the same case.
-  pub deep-is : deep x ≡ isDeep x
-  unfolding deep isDeep
-  deep-is =
+  pub yields-is : yields x ≡ compressionYields x
+  unfolding yields compressionYields
+  yields-is =
       ap (λ (c : Bool). eqb (S′ x) 0 || c) (at-most-same (compressionForce x + 2 * a′ x * k x) (tensionForce x) 10
       (same-trans (same-sum C-same (same-product (same-refl (whole (2 * a′ x)) (omega arith)) K-same)) (sum-tenths (compressionForce x) (2 * a′ x) (k x)))
       T-same)
@@ -99,42 +99,42 @@ module _ {x : Section} (p : Bounded x) where
   square-same =
       same-trans
       (same-quotient (same-product t-same t-same) (same-product (same-refl (whole 2) (omega arith)) K-same) (doubled, omega (arith, sizes p)))
-      (square-tenths (t x) (k x) (sizes p .crushing-least))
+      (square-tenths (t x) (k x) (sizes p .block-least))
 
-  deep-same : Same (deepMoment x) ((steelMoment x * (2 * k x) - t x * t x) // (2 * k x * 10000))
-  unfolding deepMoment
-  deep-same =
+  yielded-same : Same (yieldedMoment x) ((steelMoment x * (2 * k x) - t x * t x) // (2 * k x * 10000))
+  unfolding yieldedMoment
+  yielded-same =
       same-trans
       (same-quotient (same-difference moment-same square-same) (same-refl (whole 1000) (omega arith)) (omega arith))
-      (deep-tenths (steelMoment x) (t x * t x) (k x) (sizes p .crushing-least))
+      (yielded-tenths (steelMoment x) (t x * t x) (k x) (sizes p .block-least))
 
-  shallow-same : Same (shallowMoment x) ((tensionForce x * (h₀ x - a′ x)) // 10000)
-  unfolding shallowMoment
-  shallow-same =
+  couple-same : Same (coupleMoment x) ((tensionForce x * (h₀ x - a′ x)) // 10000)
+  unfolding coupleMoment
+  couple-same =
       same-trans
       (same-quotient (same-product T-same (same-refl (whole (h₀ x - a′ x)) (omega arith))) (same-refl (whole 1000) (omega arith)) (omega arith))
-      (shallow-tenths (tensionForce x) (h₀ x - a′ x))
+      (couple-tenths (tensionForce x) (h₀ x - a′ x))
 
-  deep-safe : NotAbove (deepCapacity x) (whole 1) (deepMoment x)
-  unfolding deepCapacity
-  deep-safe = same-not-above (omega arith) (same-sym deep-same) (down-not-above _ (2 * k x * 10000) (omega (arith, sizes p)))
+  yielded-safe : NotAbove (yieldedCapacity x) (whole 1) (yieldedMoment x)
+  unfolding yieldedCapacity
+  yielded-safe = same-not-above (omega arith) (same-sym yielded-same) (down-not-above _ (2 * k x * 10000) (omega (arith, sizes p)))
 
-  shallow-safe : NotAbove (shallowCapacity x) (whole 1) (shallowMoment x)
-  unfolding shallowCapacity
-  shallow-safe = same-not-above (omega arith) (same-sym shallow-same) (down-not-above _ 10000 (omega arith))
+  couple-safe : NotAbove (coupleCapacity x) (whole 1) (coupleMoment x)
+  unfolding coupleCapacity
+  couple-safe = same-not-above (omega arith) (same-sym couple-same) (down-not-above _ 10000 (omega arith))
 
   pub moment-safe : NotAbove (bendingCapacity x) (whole 1) (exactMoment x)
   unfolding bendingCapacity exactMoment
-  moment-safe = rw deep-is (go (isDeep x))
+  moment-safe = rw yields-is (go (compressionYields x))
     where
-      go : (c : Bool) → NotAbove (if c then deepCapacity x else shallowCapacity x) (whole 1) (if c then deepMoment x else shallowMoment x)
-      go true = deep-safe
-      go false = shallow-safe
+      go : (c : Bool) → NotAbove (if c then yieldedCapacity x else coupleCapacity x) (whole 1) (if c then yieldedMoment x else coupleMoment x)
+      go true = yielded-safe
+      go false = couple-safe
 
   -- Where 4.2.2 applies, the exact figure's differences cut nothing off at 0.
-  pub forces-ordered : deep x ≡ true → C x ≼ T x
+  pub forces-ordered : yields x ≡ true → C x ≼ T x
   forces-ordered d =
-      ≼-same (C x) (same-sym T-same) (same-≼ (tensionForce x // 10) (same-sym C-same) (mul-le-mul-right 10 (deep-tension p (sym deep-is ∙ d))))
+      ≼-same (C x) (same-sym T-same) (same-≼ (tensionForce x // 10) (same-sym C-same) (mul-le-mul-right 10 (yields-tension p (sym yields-is ∙ d))))
 
   pub exact-square-within : compressionDepth x ≡ true →
       (T x ⊖ C x) ⊗ (T x ⊖ C x) ⊘ (whole 2 ⊗ K x) ≼ (T x ⊖ C x) ⊗ whole (h₀ x) ⊕ C x ⊗ whole (h₀ x - a′ x)

@@ -10,7 +10,7 @@ use Rattle.quantity.proofs.Reflects.{Reflects, reflects-le, reflects-both}
 use Rattle.section.specs.declared.Section.{Section}
 use Rattle.section.specs.Section.{a′, G, S, S′, ft, fy}
 use Rattle.section.specs.Bounded.{Bounded}
-use Rattle.bending.specs.Steps.{leastSteel, tensionForce, compressionForce, k, compressionDepth, isDeep}
+use Rattle.bending.specs.Steps.{leastSteel, tensionForce, compressionForce, k, compressionDepth, compressionYields}
 use Rattle.bending.specs.Exact.{LeastSteelHolds, DepthHolds}
 
 pub least-steel-reflects : (x : Section) → Reflects (leastSteel x) (LeastSteelHolds x)
@@ -35,13 +35,13 @@ or-same : (p q : Bool) → (p ≡ true → q ≡ true) → p || q ≡ q
 or-same true q f = sym (f refl)
 or-same false q f = refl
 
-pub deep-compared : {x : Section} → Bounded x → isDeep x ≡ leb (compressionForce x + 2 * a′ x * k x) (tensionForce x)
-unfolding isDeep
-deep-compared {x} p = or-same _ _ (λ h. le-leb _ _ (reached (eqb-true (S′ x) 0 h)))
+pub yields-compared : {x : Section} → Bounded x → compressionYields x ≡ leb (compressionForce x + 2 * a′ x * k x) (tensionForce x)
+unfolding compressionYields
+yields-compared {x} p = or-same _ _ (λ h. le-leb _ _ (reached (eqb-true (S′ x) 0 h)))
   where
     reached : S′ x ≡ 0 → compressionForce x + 2 * a′ x * k x ≤ tensionForce x
     reached h = rw (h, p .no-compression h) (simp (mul-zero, zero-mul) (omega arith))
 
 -- In 4.2.2 t is not below 0.
-pub deep-tension : {x : Section} → Bounded x → isDeep x ≡ true → compressionForce x ≤ tensionForce x
-deep-tension {x} p h = omega (arith, leb-true (compressionForce x + 2 * a′ x * k x) (tensionForce x) (sym (deep-compared p) ∙ h))
+pub yields-tension : {x : Section} → Bounded x → compressionYields x ≡ true → compressionForce x ≤ tensionForce x
+yields-tension {x} p h = omega (arith, leb-true (compressionForce x + 2 * a′ x * k x) (tensionForce x) (sym (yields-compared p) ∙ h))

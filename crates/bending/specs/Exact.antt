@@ -24,22 +24,22 @@ K x = exactStress (x .concrete .fc) ⊗ whole (b x)
 abbrev pub atMost : Frac → Frac → Bool
 atMost p q = leb (p .num * q .den) (q .num * p .den)
 
--- the case that the fields pick: 4.2.2 where S' = 0 or T - C ≥ 2·a'·K, else 4.2.3
-unfoldable pub deep : Section → Bool
-deep x = eqb (S′ x) 0 || atMost (C x ⊕ whole (2 * a′ x) ⊗ K x) (T x)
+-- the compression steel yields: 4.2.2 where S' = 0 or T - C ≥ 2·a'·K, else 4.2.3
+unfoldable pub yields : Section → Bool
+yields x = eqb (S′ x) 0 || atMost (C x ⊕ whole (2 * a′ x) ⊗ K x) (T x)
 
 -- 4.2.2: ((T - C)·h0 + C·(h0 - a') - (T - C)²/(2·K))/1000; T is not below C there
-unfoldable pub deepMoment : Section → Frac
-deepMoment x =
+unfoldable pub yieldedMoment : Section → Frac
+yieldedMoment x =
     let t = T x ⊖ C x in
     (t ⊗ whole (h₀ x) ⊕ C x ⊗ whole (h₀ x - a′ x) ⊖ t ⊗ t ⊘ (whole 2 ⊗ K x)) ⊘ whole 1000
 
 -- 4.2.3: T·(h0 - a')/1000
-unfoldable pub shallowMoment : Section → Frac
-shallowMoment x = T x ⊗ whole (h₀ x - a′ x) ⊘ whole 1000
+unfoldable pub coupleMoment : Section → Frac
+coupleMoment x = T x ⊗ whole (h₀ x - a′ x) ⊘ whole 1000
 
 unfoldable pub exactMoment : Section → Frac
-exactMoment x = if deep x then deepMoment x else shallowMoment x
+exactMoment x = if yields x then yieldedMoment x else coupleMoment x
 
 -- The exact inequalities. Checks without a figure have document 01's own numbers.
 

@@ -22,7 +22,7 @@ compressionForce x = fyc x * S′ x
 abbrev pub t : Section → ℕ
 t x = tensionForce x - compressionForce x
 
--- k = fc·b
+-- k = fc·b, the force of the compressed concrete for each mm of the zone's depth
 abbrev pub k : Section → ℕ
 k x = fc x * b x
 
@@ -30,22 +30,22 @@ k x = fc x * b x
 unfoldable pub compressionDepth : Section → Bool
 compressionDepth x = leb (100 * tensionForce x) (e x * h₀ x * k x + 100 * compressionForce x)
 
--- 4.2.2 applies, and not 4.2.3, where the compression zone reaches deep enough: S' = 0 or t ≥ 2·a'·k
-unfoldable pub isDeep : Section → Bool
-isDeep x = eqb (S′ x) 0 || leb (compressionForce x + 2 * a′ x * k x) (tensionForce x)
+-- the compression steel yields, so that 4.2.2 applies and not 4.2.3: the zone is at least 2·a' deep, or there is none: S' = 0 or t ≥ 2·a'·k
+unfoldable pub compressionYields : Section → Bool
+compressionYields x = eqb (S′ x) 0 || leb (compressionForce x + 2 * a′ x * k x) (tensionForce x)
 
 -- t·h0 + fy'·S'·(h0-a'), the moment of the steel's forces about the compressed face
 abbrev pub steelMoment : Section → ℕ
 steelMoment x = t x * h₀ x + compressionForce x * (h₀ x - a′ x)
 
 -- 4.2.2: down((t·h0 + fy'·S'·(h0-a') - t²/(2k))/10000), here over 2k; t is not below 0 where 4.2.2 applies
-unfoldable pub deepCapacity : Section → ℕ
-deepCapacity x = down (steelMoment x * (2 * k x) - t x * t x) (2 * k x * 10000)
+unfoldable pub yieldedCapacity : Section → ℕ
+yieldedCapacity x = down (steelMoment x * (2 * k x) - t x * t x) (2 * k x * 10000)
 
 -- 4.2.3: down(fy·S·(h0-a')/10000)
-unfoldable pub shallowCapacity : Section → ℕ
-shallowCapacity x = down (tensionForce x * (h₀ x - a′ x)) 10000
+unfoldable pub coupleCapacity : Section → ℕ
+coupleCapacity x = down (tensionForce x * (h₀ x - a′ x)) 10000
 
 -- the moment capacity, N·m
 unfoldable pub bendingCapacity : Section → ℕ
-bendingCapacity x = if isDeep x then deepCapacity x else shallowCapacity x
+bendingCapacity x = if compressionYields x then yieldedCapacity x else coupleCapacity x

@@ -4,7 +4,7 @@ ghost use mathlib.Core.Bool.{true};
 ghost use Prim.Native.Nat.{_-_};
 ghost use Rattle.section.specs.Section.{h₀, a′, G};
 ghost use Rattle.section.specs.Bounded.{Bounded};
-ghost use Rattle.bending.specs.Steps.{leastSteel, tensionForce, compressionForce, t, k, compressionDepth, isDeep, steelMoment, deepCapacity, shallowCapacity, bendingCapacity};
+ghost use Rattle.bending.specs.Steps.{leastSteel, tensionForce, compressionForce, t, k, compressionDepth, compressionYields, steelMoment, yieldedCapacity, coupleCapacity, bendingCapacity};
 use quantity::div_down;
 use quantity::div_up;
 use section::Section;
@@ -48,8 +48,8 @@ fn compression_force(x: Section) -> u64
     x.steel.fyc.in_units() * x.compression
 }
 
-// fc·b, in tenths of N for each mm of depth.
-fn crushing_force(x: Section) -> u64
+// k = fc·b, in tenths of N for each mm of the compression zone's depth.
+fn block_force_per_mm(x: Section) -> u64
     requires { ⌜ Bounded x ⌝ }
     ensures { λ r. ⌜ r ≡ k x ⌝ }
 {
@@ -61,16 +61,16 @@ pub fn compression_depth(x: Section) -> bool
     requires { ⌜ Bounded x ⌝ }
     ensures { λ r. ⌜ r ≡ compressionDepth x ⌝ }
 {
-    let limit = (x.steel.depth as u64) * x.depth.in_millimetres() * crushing_force(x);
+    let limit = (x.steel.depthLimit as u64) * x.h0.in_millimetres() * block_force_per_mm(x);
     100 * tension_force(x) <= limit + 100 * compression_force(x)
 }
 
-// Whether 4.2.2 applies, and not 4.2.3. Without compression steel a' is 0, and the comparison holds.
-pub fn is_deep(x: Section) -> bool
+// Whether the compression steel yields: 4.2.2 applies, and not 4.2.3. Without compression steel a' is 0, and the comparison holds.
+pub fn compression_yields(x: Section) -> bool
     requires { ⌜ Bounded x ⌝ }
-    ensures { λ r. ⌜ r ≡ isDeep x ⌝ }
+    ensures { λ r. ⌜ r ≡ compressionYields x ⌝ }
 {
-    let steel = 2 * x.ac.in_millimetres() * crushing_force(x);
+    let steel = 2 * x.ac.in_millimetres() * block_force_per_mm(x);
     compression_force(x) + steel <= tension_force(x)
 }
 
@@ -78,12 +78,12 @@ pub fn is_deep(x: Section) -> bool
 fn lever_arm(x: Section) -> u64
     ensures { λ r. ⌜ r ≡ h₀ x - a′ x ⌝ }
 {
-    x.depth.minus(x.ac).in_millimetres()
+    x.h0.minus(x.ac).in_millimetres()
 }
 
 // t, which is not below 0 where 4.2.2 applies.
 fn net_tension(x: Section) -> u64
-    requires { ⌜ Bounded x × (isDeep x ≡ true) ⌝ }
+    requires { ⌜ Bounded x × (compressionYields x ≡ true) ⌝ }
     ensures { λ r. ⌜ r ≡ t x ⌝ }
 {
     tension_force(x) - compression_force(x)
@@ -91,26 +91,26 @@ fn net_tension(x: Section) -> u64
 
 // t·h0 + fy'·S'·(h0-a').
 fn steel_moment(x: Section) -> u64
-    requires { ⌜ Bounded x × (isDeep x ≡ true) ⌝ }
+    requires { ⌜ Bounded x × (compressionYields x ≡ true) ⌝ }
     ensures { λ r. ⌜ r ≡ steelMoment x ⌝ }
 {
-    net_tension(x) * x.depth.in_millimetres() + compression_force(x) * lever_arm(x)
+    net_tension(x) * x.h0.in_millimetres() + compression_force(x) * lever_arm(x)
 }
 
-// 4.2.2. t²/(2k) is rounded up before it is taken off, which leaves the one rounding down the same.
-fn deep_capacity(x: Section) -> u64
-    requires { ⌜ Bounded x × (isDeep x ≡ true) × (compressionDepth x ≡ true) ⌝ }
-    ensures { λ r. ⌜ r ≡ deepCapacity x ⌝ }
+// 4.2.2, the compression steel yields. t²/(2k) is rounded up before it is taken off, which leaves the one rounding down the same.
+fn yielded_capacity(x: Section) -> u64
+    requires { ⌜ Bounded x × (compressionYields x ≡ true) × (compressionDepth x ≡ true) ⌝ }
+    ensures { λ r. ⌜ r ≡ yieldedCapacity x ⌝ }
 {
     let t = net_tension(x);
-    let square = div_up(t * t, 2 * crushing_force(x));
+    let square = div_up(t * t, 2 * block_force_per_mm(x));
     div_down(steel_moment(x) - square, 10000)
 }
 
-// 4.2.3.
-fn shallow_capacity(x: Section) -> u64
+// 4.2.3, the couple of tension and compression steel.
+fn couple_capacity(x: Section) -> u64
     requires { ⌜ Bounded x ⌝ }
-    ensures { λ r. ⌜ r ≡ shallowCapacity x ⌝ }
+    ensures { λ r. ⌜ r ≡ coupleCapacity x ⌝ }
 {
     div_down(tension_force(x) * lever_arm(x), 10000)
 }
@@ -120,9 +120,9 @@ pub fn bending_capacity(x: Section) -> u64
     requires { ⌜ Bounded x × (compressionDepth x ≡ true) ⌝ }
     ensures { λ r. ⌜ r ≡ bendingCapacity x ⌝ }
 {
-    if is_deep(x) {
-        deep_capacity(x)
+    if compression_yields(x) {
+        yielded_capacity(x)
     } else {
-        shallow_capacity(x)
+        couple_capacity(x)
     }
 }

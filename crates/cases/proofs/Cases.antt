@@ -2,21 +2,21 @@
 use mathlib.Core.Path.{refl}
 use lib.Ieee.{ofInt, div, round, lt}
 use Rattle.text.specs.Text.{decimal, digits, valueFrom, valueOf, every, isDecimal, joinedBy, endedBy, textOf, splitMore, split, lineOf, wordOf}
-use Rattle.line.specs.Said.{figureSaid, saidBy}
+use Rattle.line.specs.ParsedLine.{parsedFigure, parseLine}
 use Rattle.quantity.specs.Rounding.{up, down, clamp}
-use Rattle.standard.specs.Bars.{areaOf}
+use Rattle.code_tables.specs.Bars.{areaOf}
 use Rattle.material.specs.Concrete.{concreteOf}
-use Rattle.standard.specs.Mesh.{multiple}
-use Rattle.standard.specs.Slenderness.{point}
-use Rattle.standard.specs.Spacing.{spacingLimit}
+use Rattle.code_tables.specs.Mesh.{multiple}
+use Rattle.code_tables.specs.Slenderness.{point}
+use Rattle.code_tables.specs.Spacing.{spacingLimit}
 use Rattle.material.specs.Steel.{steelOf, fyvOf}
 use Rattle.bars.specs.Sums.{barCount, area, sumD, sumE, groupArea, groupDiameters, groupSquares}
-use Rattle.relation.specs.Relation.{flangeFits, compressionFits, depthFits, beamRelation, columnRelation, meshRelation}
+use Rattle.consistency.specs.Consistency.{flangeFits, compressionFits, depthFits, beamConsistent, columnConsistent, meshConsistent}
 use Rattle.reinforcement.specs.Reinforcement.{beamBars, beamRatio, columnBars}
-use Rattle.domain.specs.Domain.{asked, holds, fieldHolds}
-use Rattle.field.specs.Fields.{known, kindOf, fieldsOf}
+use Rattle.field_domain.specs.Domain.{isPresent, holds, fieldHolds}
+use Rattle.field_table.specs.Fields.{known, kindOf, fieldsOf}
 use Rattle.section.specs.Section.{sectionOf}
-use Rattle.bending.specs.Steps.{leastSteel, compressionDepth, isDeep, deepCapacity, shallowCapacity, bendingCapacity}
+use Rattle.bending.specs.Steps.{leastSteel, compressionDepth, compressionYields, yieldedCapacity, coupleCapacity, bendingCapacity}
 use Rattle.shear.specs.Steps.{concreteShear, linkShear, shearCapacity, shearAbove, linkSpacing, leastLinks}
 use Rattle.cracking.specs.Steps.{stressHolds, steelStress, stiffening, meanStress, crackSpacing, widthOf, σ, q, crackWidth, widthLimit}
 use Rattle.deflection.specs.Steps.{flexibility, curvature, shortTerm, longTerm, deflectionOf, deflection, spanDivisor, deflectionHolds}
@@ -24,29 +24,29 @@ use Rattle.serviceability.specs.Checks.{fromDeflection, fromWidth, fromStress}
 use Rattle.beam.specs.Checks.{fromLeastLinks, fromSpacing, fromShear, fromBending, fromDepth, sectionOutcome, beamOutcome}
 use Rattle.axial.specs.Steps.{steelFits, slendernessFits, concreteArea, squashLoad, axialCapacity}
 use Rattle.column.specs.Checks.{linksFit, axialOutcome, slendernessOutcome, linksOutcome, columnOutcome}
-use Rattle.stability.specs.Steps.{interval, between, stability}
+use Rattle.stability.specs.Steps.{interval, interpolated, stability}
 use Rattle.anchorage.specs.Steps.{basicLength, anchorageLength}
 use Rattle.lap.specs.Steps.{tensionLap, requiredLap, lapLength}
 use Rattle.mesh.specs.Checks.{lapOutcome, meshOutcome}
-use Rattle.layout.specs.Layout.{beamAt, columnAt, meshAt, memberAt}
-use Rattle.built.specs.Verdict.{beamVerdict, columnVerdict, meshVerdict, memberVerdict, markInRange}
+use Rattle.field_layout.specs.Layout.{beamAt, columnAt, meshAt, memberAt}
+use Rattle.verdict.specs.Verdict.{beamVerdict, columnVerdict, meshVerdict, memberVerdict, markInRange}
 use Rattle.ratio.specs.Ratio.{quotient, ratio, overFigure, overLimit}
 use Rattle.utilization.specs.Utilization.{deflectionLimit, beamUtilization, columnUtilization, meshUtilization}
-use Rattle.number.specs.Number.{numberAt, groupsAt, lastGroup}
-use Rattle.reading.specs.Fields.{field, fields}
-use Rattle.members.specs.Members.{whole, markRises, markAt, kindAt, member, members}
+use Rattle.varint.specs.Varint.{numberAt, septetsAt, lastSeptet}
+use Rattle.field_validator.specs.FieldsAt.{field, fields}
+use Rattle.members.specs.Members.{memberBody, markRises, markAt, kindAt, member, members}
 use Rattle.schedule.specs.Schedule.{schedule}
 use Rattle.report.specs.Report.{reportOf}
-use Rattle.lists.specs.Lists.{namedHold}
+use Rattle.lent_groups.specs.LentGroups.{namedHold}
 use Rattle.totals.specs.Totals.{barTotals}
-use Rattle.lent.specs.Lent.{lentBeam, lentColumn, lentMember, lentFieldsHold, lentVerdict}
-use Rattle.koxaltes.specs.Claim.{lentReportOf}
-use Rattle.koxaltes.specs.Utilized.{lentUtilizationOf}
-use Rattle.printing.specs.Printing.{outputOf}
+use Rattle.lent_member.specs.Lent.{lentBeam, lentColumn, lentMember, lentFieldsHold, lentVerdict}
+use Rattle.koxaltes.specs.Entries.{lentReportOf}
+use Rattle.koxaltes.specs.UtilizationEntry.{lentUtilizationOf}
+use Rattle.program_output.specs.ProgramOutput.{outputOf}
 use Rattle.cases.specs.Cases.{Table}
 
 pub table : Table
-unfolding saidBy figureSaid lineOf wordOf split splitMore isDecimal every valueOf valueFrom outputOf reportOf textOf endedBy joinedBy decimal digits lentReportOf lentUtilizationOf lentVerdict lentMember lentBeam lentColumn lentFieldsHold namedHold barTotals numberAt groupsAt lastGroup schedule members member markAt kindAt markRises markInRange whole fields field fieldsOf known kindOf asked holds areaOf memberVerdict fieldHolds beamVerdict columnVerdict meshVerdict beamRelation flangeFits compressionFits depthFits beamBars beamRatio columnRelation columnBars meshRelation barCount memberAt beamAt columnAt meshAt beamOutcome sectionOutcome fromDepth fromBending fromShear fromSpacing fromLeastLinks fromStress fromWidth fromDeflection sectionOf concreteOf steelOf fyvOf area sumD sumE groupArea groupDiameters groupSquares leastSteel compressionDepth isDeep deepCapacity shallowCapacity bendingCapacity concreteShear linkShear shearCapacity shearAbove linkSpacing leastLinks spacingLimit stressHolds steelStress stiffening meanStress crackSpacing widthOf σ q crackWidth widthLimit flexibility curvature shortTerm longTerm deflectionOf deflection spanDivisor deflectionHolds columnOutcome linksOutcome slendernessOutcome axialOutcome steelFits linksFit slendernessFits axialCapacity stability interval between concreteArea squashLoad point meshOutcome lapOutcome anchorageLength lapLength requiredLap tensionLap basicLength multiple up down clamp beamUtilization columnUtilization meshUtilization overFigure overLimit ratio deflectionLimit quotient ofInt div round lt
+unfolding parseLine parsedFigure lineOf wordOf split splitMore isDecimal every valueOf valueFrom outputOf reportOf textOf endedBy joinedBy decimal digits lentReportOf lentUtilizationOf lentVerdict lentMember lentBeam lentColumn lentFieldsHold namedHold barTotals numberAt septetsAt lastSeptet schedule members member markAt kindAt markRises markInRange memberBody fields field fieldsOf known kindOf isPresent holds areaOf memberVerdict fieldHolds beamVerdict columnVerdict meshVerdict beamConsistent flangeFits compressionFits depthFits beamBars beamRatio columnConsistent columnBars meshConsistent barCount memberAt beamAt columnAt meshAt beamOutcome sectionOutcome fromDepth fromBending fromShear fromSpacing fromLeastLinks fromStress fromWidth fromDeflection sectionOf concreteOf steelOf fyvOf area sumD sumE groupArea groupDiameters groupSquares leastSteel compressionDepth compressionYields yieldedCapacity coupleCapacity bendingCapacity concreteShear linkShear shearCapacity shearAbove linkSpacing leastLinks spacingLimit stressHolds steelStress stiffening meanStress crackSpacing widthOf σ q crackWidth widthLimit flexibility curvature shortTerm longTerm deflectionOf deflection spanDivisor deflectionHolds columnOutcome linksOutcome slendernessOutcome axialOutcome steelFits linksFit slendernessFits axialCapacity stability interval interpolated concreteArea squashLoad point meshOutcome lapOutcome anchorageLength lapLength requiredLap tensionLap basicLength multiple up down clamp beamUtilization columnUtilization meshUtilization overFigure overLimit ratio deflectionLimit quotient ofInt div round lt
 table =
     record {
       beam-1 = refl;
@@ -81,9 +81,9 @@ table =
       cross-bar-two = refl;
       ends-in-a-field = refl;
       byte-left = refl;
-      total-said = refl;
-      passed-said = refl;
-      failed-said = refl;
+      total-parsed = refl;
+      passed-parsed = refl;
+      failed-parsed = refl;
       placed-beam = refl;
       placed-column = refl;
       placed-mesh = refl;

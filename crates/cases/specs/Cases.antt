@@ -9,23 +9,23 @@ use lib.IntN.{negsuc}
 use lib.Ieee.{fin}
 use Rattle.text.specs.Text.{valueOf, wordOf, lineOf}
 use Rattle.outcome.specs.declared.Figure.the-variants.{Reached, Unreached}
-use Rattle.line.specs.Said.{saidBy}
+use Rattle.line.specs.ParsedLine.{parseLine}
 use Rattle.question.specs.declared.Question.the-variants.{Field}
 use Rattle.deflection.specs.Steps.{spanDivisor}
 use Rattle.stability.specs.Steps.{stability}
 use Rattle.ratio.specs.declared.Utilization.{Utilization}
-use Rattle.ratio.specs.Ratio.{nought, noRatio, four}
+use Rattle.ratio.specs.Ratio.{nought, noRatio, fourRatios}
 use Rattle.governing.specs.Governing.{double, none, governingOf}
 use Rattle.utilization.specs.Utilized.{valuesGiven, valuesRefused}
 use Rattle.question.specs.Reading.{got, no, refusal}
 use Rattle.schedule.specs.Schedule.{schedule}
-use Rattle.lines.specs.Lines.{memberText}
-use Rattle.lent.specs.Lent.{lentMember}
+use Rattle.report_text.specs.ReportText.{memberText}
+use Rattle.lent_member.specs.Lent.{lentMember}
 use Rattle.totals.specs.Totals.{barTotals}
-use Rattle.koxaltes.specs.Claim.{lentReportOf}
-use Rattle.koxaltes.specs.Utilized.{lentUtilizationOf}
-use Rattle.printing.specs.Printing.{outputOf}
-use Rattle.cases.specs.Members.{
+use Rattle.koxaltes.specs.Entries.{lentReportOf}
+use Rattle.koxaltes.specs.UtilizationEntry.{lentUtilizationOf}
+use Rattle.program_output.specs.ProgramOutput.{outputOf}
+use Rattle.cases.specs.CaseMembers.{
   bars,
   beamWith,
   beam₁,
@@ -98,7 +98,7 @@ ofMesh =
     }
 
 abbrev pub ofNone : Utilization
-ofNone = four noRatio noRatio noRatio noRatio
+ofNone = fourRatios noRatio noRatio noRatio noRatio
 
 -- ---- The table.
 
@@ -141,9 +141,9 @@ pub record Table : Type 0 where
   pub ends-in-a-field : outputOf (1 ∷ 1 ∷ 2 ∷ 172 ∷ 2 ∷ 172 ∷ 2 ∷ 30 ∷ []) ≡ bytes "refused 2 member 1\n"
   pub byte-left : outputOf (0 ∷ 0 ∷ []) ≡ bytes "refused 11 member 0\n"
   -- what the bytes of a report say, and those of a line
-  pub total-said : valueOf (wordOf 1 (lineOf 0 printed)) ≡ 3
-  pub passed-said :
-      saidBy (lineOf 1 printed) ≡ record {
+  pub total-parsed : valueOf (wordOf 1 (lineOf 0 printed)) ≡ 3
+  pub passed-parsed :
+      parseLine (lineOf 1 printed) ≡ record {
         mark = 1;
         word = bytes "OK";
         first = Reached 179495;
@@ -151,8 +151,8 @@ pub record Table : Type 0 where
         third = Reached 172;
         fourth = Reached 1885;
       }
-  pub failed-said :
-      saidBy (bytes "1 4.3.3 179495 177587 - -") ≡ record {
+  pub failed-parsed :
+      parseLine (bytes "1 4.3.3 179495 177587 - -") ≡ record {
         mark = 1;
         word = bytes "4.3.3";
         first = Reached 179495;

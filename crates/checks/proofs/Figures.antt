@@ -36,7 +36,7 @@ use Rattle.anchorage.proofs.Bounds.{anchorage-most}
 use Rattle.lap.specs.Steps.{lapLength}
 use Rattle.lap.proofs.Bounds.{lap-most}
 use Rattle.mesh.proofs.Ways as meshes
-use Rattle.checks.specs.Outcome.{outcomeOf}
+use Rattle.checks.specs.MemberOutcome.{outcomeOf}
 
 pub record Short (o : Outcome) : Type 0 where
   pub first : Below (10 ^ 9) (o .first)

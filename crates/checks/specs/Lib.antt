@@ -1,2 +1,2 @@
-pub mod Outcome
-pub mod Claim
+pub mod MemberOutcome
+pub mod LineClaim

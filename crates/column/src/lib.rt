@@ -21,7 +21,7 @@ use outcome::Check;
 use outcome::Outcome;
 use outcome::no_figure;
 use outcome::one_figure;
-use quantity::both;
+use quantity::and;
 
 // 5.6.2.
 fn links_fit(x: Column) -> bool
@@ -33,9 +33,9 @@ fn links_fit(x: Column) -> bool
     let bars = totals_of(groups, x.count);
     let quarter = bars.largest <= 4 * (x.link as u64);
     let spaced = s <= 15 * bars.smallest;
-    both(
+    and(
         quarter,
-        both(s <= 400, both(s <= x.b.in_millimetres(), spaced)),
+        and(s <= 400, and(s <= x.b.in_millimetres(), spaced)),
     )
 }
 
@@ -45,7 +45,7 @@ fn check_axial(x: Column, concrete: Concrete, steel: Steel) -> Outcome
     ensures { λ r. ⌜ r ≡ axialOutcome (columnOf x) concrete steel ⌝ }
 {
     let capacity = axial_capacity(x, concrete, steel).in_newtons();
-    if x.n.in_newtons() <= capacity {
+    if x.N.in_newtons() <= capacity {
         one_figure(Check::Passed, capacity)
     } else {
         one_figure(Check::AxialForce, capacity)

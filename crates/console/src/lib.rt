@@ -2,7 +2,7 @@
 ghost use Prim.Native.Nat.{_<_};
 ghost use lib.ListN.{length};
 ghost use Rattle.console.specs.Input.{ReadInto};
-use printing::print_schedule;
+use program_output::print_schedule;
 
 enum Input {
     // how many bytes stand at the buffer's start: the whole input, or as much of it as there is room for

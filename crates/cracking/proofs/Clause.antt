@@ -3,7 +3,7 @@ use Prim.Native.Nat.{ℕ, _-_, _*_, _<_}
 use native.Mathlib.Nat.{mul-pos}
 use native.Mathlib.Omega.{arith}
 use Rattle.quantity.specs.Rounding.{clamp}
-use Rattle.quantity.specs.Fraction.{Frac, _//_, whole, Proper, _⊕_, _⊖_, _⊗_, _⊘_, smaller, larger, held}
+use Rattle.quantity.specs.Fraction.{Frac, _//_, whole, Proper, _⊕_, _⊖_, _⊗_, _⊘_, smaller, larger, clampFrac}
 use Rattle.quantity.specs.Unit.{exactStress}
 use Rattle.quantity.proofs.Rounding.{expand}
 use Rattle.quantity.proofs.Fraction.{level, Same, same-trans, same-difference, same-smaller, same-larger, same-product, product-smaller, product-larger, product-difference, proper-difference, proper-larger, proper-quotient, positive-product}
@@ -60,11 +60,11 @@ more-product : (a : Frac) → Proper a → Same (11 // 10 ⊗ a) (over (times 11
 unfolding _⊗_ over times
 more-product a p = record { pos = omega arith; pos′ = omega arith; same = simp expand (omega arith) }
 
-held-same : (k : ℕ) (a p f : Frac) {σ g : Frac} → Proper a → 0 < p .num → 0 < f .num → Proper f →
+clamped-same : (k : ℕ) (a p f : Frac) {σ g : Frac} → Proper a → 0 < p .num → 0 < f .num → Proper f →
     Same (times k f) σ → Same (times k (a ⊘ p)) g →
-    Same (held (2 // 10) (whole 1) (11 // 10 ⊖ a ⊘ (p ⊗ f)) ⊗ times k f) (mean* σ g)
-unfolding held mean*
-held-same k a p f {σ} {g} u v w y s r =
+    Same (clampFrac (2 // 10) (whole 1) (11 // 10 ⊖ a ⊘ (p ⊗ f)) ⊗ times k f) (mean* σ g)
+unfolding clampFrac mean*
+clamped-same k a p f {σ} {g} u v w y s r =
     let F = times k f in
     let Q = a ⊘ (p ⊗ f) in
     let Q-proper = proper-quotient a (p ⊗ f) u (positive-product p f v w) in
@@ -82,11 +82,11 @@ module _ (x : Section) (pM : 0 < Mq x) (ph : 0 < h₀ x) (pS : 0 < S x) where
   pub ψ-same : Same (ψ x ⊗ times 10000 (f x)) (mean* (stress* (Mq x) (h₀ x) (S x)) (stiffening* (ftk x) (W x) (S x)))
   unfolding ψ
   ψ-same =
-      held-same 10000 (cracking x) (p x) (f x) (cracking-proper x pM ph pS) (p-num x pM ph pS) (f-num x pM ph pS) (f-proper x pM ph pS)
+      clamped-same 10000 (cracking x) (p x) (f x) (cracking-proper x pM ph pS) (p-num x pM ph pS) (f-num x pM ph pS) (f-proper x pM ph pS)
       (f-same x pM ph pS) (stiffening-same x pM ph pS)
 
   pub ψ-proper : Proper (ψ x)
-  unfolding ψ held smaller larger _⊖_
+  unfolding ψ clampFrac smaller larger _⊖_
   ψ-proper =
       omega (arith, proper-quotient (cracking x) (p x ⊗ f x) (cracking-proper x pM ph pS) (positive-product (p x) (f x) (p-num x pM ph pS) (f-num x pM ph pS)))
 

@@ -4,7 +4,7 @@ use Prim.Native.Nat.{_*_, _^_, _≤_}
 use lib.Dec.{eqb}
 use Rattle.quantity.specs.Choice.{if_then_else_}
 use Rattle.quantity.specs.Rounding.{clamp}
-use Rattle.quantity.specs.Fraction.{Frac, _//_, whole, _⊕_, _⊖_, _⊗_, _⊘_, held, _≼_}
+use Rattle.quantity.specs.Fraction.{Frac, _//_, whole, _⊕_, _⊖_, _⊗_, _⊘_, clampFrac, _≼_}
 use Rattle.quantity.specs.Unit.{exactStress}
 use Rattle.material.specs.Steel.{Es}
 use Rattle.section.specs.declared.Section.{Section}
@@ -24,7 +24,7 @@ p x = As x ⊘ (5 // 10 ⊗ whole (b x * h x) ⊕ whole (flange x))
 
 -- ψ = 1.1 - 0.65·ftk/(p·f) held to 0.2-1
 unfoldable pub ψ : Section → Frac
-ψ x = held (2 // 10) (whole 1) (11 // 10 ⊖ (65 // 100 ⊗ exactStress (x .concrete .ftk)) ⊘ (p x ⊗ f x))
+ψ x = clampFrac (2 // 10) (whole 1) (11 // 10 ⊖ (65 // 100 ⊗ exactStress (x .concrete .ftk)) ⊘ (p x ⊗ f x))
 
 -- width in mm: 1.9·ψ·(f/Es)·(1.9·c + 0.08·E/(D·p)), c held to 20-65
 unfoldable pub exactWidth : Section → Frac

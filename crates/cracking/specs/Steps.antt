@@ -29,6 +29,7 @@ meanStress σ g = min σ (max (up σ 5) (up (11 * σ) 10 - g))
 unfoldable pub crackSpacing : ℕ → ℕ → ℕ → ℕ → ℕ → ℕ
 crackSpacing c E W D S = 190 * clamp 20 65 c + up (40 * E * W) (D * S)
 
+-- the crack width from q and K, 0.001 mm
 unfoldable pub widthOf : ℕ → ℕ → ℕ
 widthOf q K = up (19 * q * K) (2 * 10 ^ 9)
 

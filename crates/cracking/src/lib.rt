@@ -10,7 +10,7 @@ use quantity::clamped;
 use quantity::div_down;
 use quantity::div_up;
 use quantity::larger;
-use quantity::less;
+use quantity::saturating_sub;
 use quantity::smaller;
 use section::Section;
 
@@ -19,7 +19,7 @@ pub fn stress_holds(x: Section) -> bool
     requires { ⌜ Bounded x ⌝ }
     ensures { λ r. ⌜ r ≡ stressHolds x ⌝ }
 {
-    1000000 * x.mq <= 87 * x.steel.fyk.in_units() * x.depth.0 * x.tension
+    1000000 * x.Mq <= 87 * x.steel.fyk.in_units() * x.h0.in_millimetres() * x.tension
 }
 
 fn steel_stress_of(mq: u64, h0: u64, s: u64) -> u64
@@ -34,7 +34,7 @@ pub fn steel_stress(x: Section) -> u64
     requires { ⌜ (Bounded x) × (stressHolds x ≡ true) ⌝ }
     ensures { λ r. ⌜ r ≡ σ x ⌝ }
 {
-    steel_stress_of(x.mq, x.depth.0, x.tension)
+    steel_stress_of(x.Mq, x.h0.in_millimetres(), x.tension)
 }
 
 fn stiffening_of(ftk: u64, w: u64, s: u64) -> u64
@@ -50,14 +50,15 @@ fn mean_stress_of(stress: u64, taken: u64) -> u64
 {
     let fifth = div_up(stress, 5);
     let more = div_up(11 * stress, 10);
-    smaller(stress, larger(fifth, less(more, taken)))
+    smaller(stress, larger(fifth, saturating_sub(more, taken)))
 }
 
-fn weighted_area(x: Section) -> u64
+// W = 2·Ate, mm².
+fn twice_tension_area(x: Section) -> u64
     requires { ⌜ Bounded x ⌝ }
     ensures { λ r. ⌜ r ≡ W x ⌝ }
 {
-    x.b.0 * x.h.0 + 2 * x.flange
+    x.b.in_millimetres() * x.h.in_millimetres() + 2 * x.flange
 }
 
 // q, the mean stress between cracks, from σ.
@@ -67,7 +68,11 @@ pub fn mean_stress(x: Section, stress: u64) -> u64
 {
     mean_stress_of(
         stress,
-        stiffening_of(x.concrete.ftk.in_hundredths(), weighted_area(x), x.tension),
+        stiffening_of(
+            x.concrete.ftk.in_hundredths(),
+            twice_tension_area(x),
+            x.tension,
+        ),
     )
 }
 
@@ -90,9 +95,16 @@ pub fn crack_width(x: Section, mean: u64) -> u64
     requires { ⌜ (Bounded x) × (G x ≤ 50 * S x) × (mean ≡ q x) × (mean ≤ stressMost) ⌝ }
     ensures { λ r. ⌜ r ≡ crackWidth x ⌝ }
 {
+    let cover = x.c.in_millimetres();
     width_of(
         mean,
-        crack_spacing_of(x.c.0, x.squares, weighted_area(x), x.diameters, x.tension),
+        crack_spacing_of(
+            cover,
+            x.squares,
+            twice_tension_area(x),
+            x.diameters,
+            x.tension,
+        ),
     )
 }
 

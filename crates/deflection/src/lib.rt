@@ -10,7 +10,7 @@ ghost use Rattle.deflection.specs.Steps.{flexibility, curvature, shortTe
 use quantity::Length;
 use quantity::div_down;
 use quantity::div_up;
-use quantity::less;
+use quantity::saturating_sub;
 use quantity::smaller;
 use section::Section;
 
@@ -39,7 +39,7 @@ fn long_term_of(s: u64, sc: u64, flanged: bool) -> u64
     requires { ⌜ (1 ≤ s) × (s ≤ 800000) ⌝ }
     ensures { λ r. ⌜ r ≡ longTerm s sc flanged ⌝ }
 {
-    let theta = less(2000000, div_down(400000 * smaller(s, sc), s));
+    let theta = saturating_sub(2000000, div_down(400000 * smaller(s, sc), s));
     if flanged { div_up(6 * theta, 5) } else { theta }
 }
 
@@ -48,11 +48,13 @@ fn section_curvature(x: Section, stress: u64, mean: u64) -> u64
     requires { ⌜ (Bounded x) × (stress ≤ stressMost) × (mean ≤ stressMost) ⌝ }
     ensures { λ r. ⌜ r ≡ curvature mean (flexibility (S x) (Rattle.section.specs.Section.Ec x) (b x) (h₀ x)) stress ⌝ }
 {
-    curvature_of(
-        mean,
-        flexibility_of(x.tension, x.concrete.ec.in_units(), x.b.0, x.depth.0),
-        stress,
-    )
+    let z = flexibility_of(
+        x.tension,
+        x.concrete.ec.in_units(),
+        x.b.in_millimetres(),
+        x.h0.in_millimetres(),
+    );
+    curvature_of(mean, z, stress)
 }
 
 // 4.5.1: the deflection, 0.01 mm, from σ and q.
@@ -60,7 +62,8 @@ pub fn deflection_figure(x: Section, stress: u64, mean: u64) -> u64
     requires { ⌜ (Bounded x) × (stress ≡ σ x) × (stress ≤ stressMost) × (mean ≡ q x) × (mean ≤ stressMost) ⌝ }
     ensures { λ r. ⌜ r ≡ deflection x ⌝ }
 {
-    let u = short_term_of(x.span.0, x.depth.0, section_curvature(x, stress, mean));
+    let r = section_curvature(x, stress, mean);
+    let u = short_term_of(x.l0.in_millimetres(), x.h0.in_millimetres(), r);
     let theta = long_term_of(x.tension, x.compression, x.flanged);
     div_up(u * theta, 1000000000000)
 }
@@ -79,10 +82,11 @@ fn by_span(l0: u64, below: u64, to: u64, above: u64) -> u64
 pub fn span_divisor(l0: Length, strict: u32) -> u64
     ensures { λ r. ⌜ r ≡ spanDivisor (l0 .0) strict ⌝ }
 {
+    let span = l0.in_millimetres();
     if strict == 1 {
-        by_span(l0.0, 250, 300, 400)
+        by_span(span, 250, 300, 400)
     } else {
-        by_span(l0.0, 200, 250, 300)
+        by_span(span, 200, 250, 300)
     }
 }
 
@@ -91,5 +95,5 @@ pub fn deflection_holds(x: Section, figure: u64) -> bool
     requires { ⌜ (Bounded x) × (figure ≡ deflection x) × (figure ≤ deflectionMost) ⌝ }
     ensures { λ r. ⌜ r ≡ deflectionHolds x ⌝ }
 {
-    figure * span_divisor(x.span, x.strict) <= 100 * x.span.0
+    figure * span_divisor(x.l0, x.strict) <= 100 * x.l0.in_millimetres()
 }

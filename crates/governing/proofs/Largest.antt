@@ -46,9 +46,9 @@ larger-of t (fin false m f) (fin true n d) p q e = absurd q
 larger-of true (fin false m f) (fin false n d) p q e = (le-refl _, le-of-lt (ltb-true _ _ e))
 larger-of false (fin false m f) (fin false n d) p q e = (ltb-false _ _ e, le-refl _)
 
-fair-of : (t : Bool) (x y : Float) → T (finiteNonneg x) → T (finiteNonneg y) → T (finiteNonneg (if t then x else y))
-fair-of true x y p q = p
-fair-of false x y p q = q
+nonneg-of : (t : Bool) (x y : Float) → T (finiteNonneg x) → T (finiteNonneg y) → T (finiteNonneg (if t then x else y))
+nonneg-of true x y p q = p
+nonneg-of false x y p q = q
 
 -- ---- One more.
 
@@ -61,10 +61,10 @@ abbrev Covers : DoubleOrNone → Float → Type 0
 Covers none x = ⊥
 Covers (double y) x = AtMost x y
 
-stays-fair : (g : DoubleOrNone) (t : Bool) (z : Float) → FairSoFar g → (t ≡ true → T (finiteNonneg z)) → FairSoFar (including g t z)
-stays-fair g false z p q = p
-stays-fair none true z p q = q refl
-stays-fair (double y) true z p q = fair-of (lt y z) z y (q refl) p
+stays-nonneg : (g : DoubleOrNone) (t : Bool) (z : Float) → FairSoFar g → (t ≡ true → T (finiteNonneg z)) → FairSoFar (including g t z)
+stays-nonneg g false z p q = p
+stays-nonneg none true z p q = q refl
+stays-nonneg (double y) true z p q = nonneg-of (lt y z) z y (q refl) p
 
 stays-covered : (g : DoubleOrNone) (t : Bool) (z x : Float) → FairSoFar g → (t ≡ true → T (finiteNonneg z)) → Covers g x → Covers (including g t z) x
 stays-covered g false z x p q h = h
@@ -90,19 +90,19 @@ taken (double y) true z x e = pick (lt y z) e
 
 -- ---- All of them.
 
-from-fair : (g : DoubleOrNone) (rs : List Ratio) → FairSoFar g → FiniteNonneg rs → FairSoFar (governingFrom g rs)
-from-fair g [] p f = p
-from-fair g (r ∷ rs) p f = from-fair _ rs (stays-fair g (r .reached) (r .value) p (f .0)) (f .1)
+from-nonneg : (g : DoubleOrNone) (rs : List Ratio) → FairSoFar g → FiniteNonneg rs → FairSoFar (governingFrom g rs)
+from-nonneg g [] p f = p
+from-nonneg g (r ∷ rs) p f = from-nonneg _ rs (stays-nonneg g (r .reached) (r .value) p (f .0)) (f .1)
 
 from-covered : (g : DoubleOrNone) (rs : List Ratio) (x : Float) → FairSoFar g → FiniteNonneg rs → Covers g x → Covers (governingFrom g rs) x
 from-covered g [] x p f h = h
 from-covered g (r ∷ rs) x p f h =
-    from-covered _ rs x (stays-fair g (r .reached) (r .value) p (f .0)) (f .1) (stays-covered g (r .reached) (r .value) x p (f .0) h)
+    from-covered _ rs x (stays-nonneg g (r .reached) (r .value) p (f .0)) (f .1) (stays-covered g (r .reached) (r .value) x p (f .0) h)
 
 from-among : (g : DoubleOrNone) (rs : List Ratio) (x : Float) → FairSoFar g → FiniteNonneg rs → Among rs x → Covers (governingFrom g rs) x
 from-among g [] x p f a = absurd a
 from-among g (r ∷ rs) x p f a =
-    let q = stays-fair g (r .reached) (r .value) p (f .0) in
+    let q = stays-nonneg g (r .reached) (r .value) p (f .0) in
     ⊎-elim
     (λ e. from-covered _ rs x q (f .1) (rw (← e .1) (covers-it g (r .reached) (r .value) (e .0) p (f .0))))
     (λ b. from-among _ rs x q (f .1) b)
@@ -118,9 +118,9 @@ from-reached g (r ∷ rs) x e =
 
 -- ---- What governs.
 
-among-fair : (rs : List Ratio) (x : Float) → FiniteNonneg rs → Among rs x → T (finiteNonneg x)
-among-fair [] x f a = absurd a
-among-fair (r ∷ rs) x f a = ⊎-elim (λ e. rw (← e .1) (f .0 (e .0))) (λ b. among-fair rs x (f .1) b) a
+among-nonneg : (rs : List Ratio) (x : Float) → FiniteNonneg rs → Among rs x → T (finiteNonneg x)
+among-nonneg [] x f a = absurd a
+among-nonneg (r ∷ rs) x f a = ⊎-elim (λ e. rw (← e .1) (f .0 (e .0))) (λ b. among-nonneg rs x (f .1) b) a
 
 module _ (u : Utilization) where
   pub governs : {g : DoubleOrNone} → g ≡ governingOf u → Governs u g
@@ -128,9 +128,9 @@ module _ (u : Utilization) where
       record {
         value-is = e;
         reached = λ x d. ⊎-elim (λ n. absurd (let z : _≡_ {A = ℕ} 0 1 = cc in omega arith)) (λ a. a) (from-reached none (ratiosOf u) x (sym e ∙ d));
-        largest = λ f y a. rw e (at-least (governingOf u) y f a (from-fair none (ratiosOf u) tt f) (from-among none (ratiosOf u) y tt f a));
+        largest = λ f y a. rw e (at-least (governingOf u) y f a (from-nonneg none (ratiosOf u) tt f) (from-among none (ratiosOf u) y tt f a));
       }
     where
       at-least : (h : DoubleOrNone) (y : Float) → FiniteNonneg (ratiosOf u) → Among (ratiosOf u) y → FairSoFar h → Covers h y → AtLeast h y
       at-least none y f a p c = absurd c
-      at-least (double x) y f a p c = is-true (le y x) (at-most-le y x (among-fair (ratiosOf u) y f a) p c)
+      at-least (double x) y f a p c = is-true (le y x) (at-most-le y x (among-nonneg (ratiosOf u) y f a) p c)

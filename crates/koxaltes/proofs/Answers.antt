@@ -6,38 +6,38 @@ use lib.ListN.{length, take}
 use Rattle.question.proofs.Numbers.{numbered}
 use Rattle.member.specs.Member.{Member}
 use Rattle.bars.specs.declared.Group.{Group}
-use Rattle.built.specs.declared.Built.{Built}
-use Rattle.built.specs.Built.{memberOf}
+use Rattle.verdict.specs.declared.Built.{Built}
+use Rattle.verdict.specs.Built.{memberOf}
 use Rattle.question.specs.declared.Verdict.{Verdict}
 use Rattle.question.specs.declared.Verdict.the-variants.{Accepted, Refused}
-use Rattle.built.specs.Verdict.{builtVerdict}
+use Rattle.verdict.specs.Verdict.{builtVerdict}
 use Rattle.question.specs.Reading.{got}
-use Rattle.lists.specs.Copied.{four}
-use Rattle.field.specs.Fields.{kindOf}
-use Rattle.lent.specs.declared.Lent.{Lent}
-use Rattle.lent.specs.Lent.{lentMember, firstCount, secondCount}
-use Rattle.lent.specs.Slots.{builtOf}
-use Rattle.lent.proofs.InSlots.{slots-again, copied, slots, lent-verdict, lent-member}
-use Rattle.printed.specs.declared.Answer.{Answer}
-use Rattle.printed.specs.Printed.{numbersOf, answered}
-use Rattle.lines.specs.Lines.{memberText}
+use Rattle.lent_groups.specs.CopiedGroups.{firstFour}
+use Rattle.field_table.specs.Fields.{kindOf}
+use Rattle.lent_member.specs.declared.Lent.{Lent}
+use Rattle.lent_member.specs.Lent.{lentMember, firstCount, secondCount}
+use Rattle.lent_member.specs.LentSlots.{builtOf}
+use Rattle.lent_member.proofs.InSlots.{slots-again, copied, slots, lent-verdict, lent-member}
+use Rattle.text_answer.specs.declared.TextAnswer.{TextAnswer}
+use Rattle.text_answer.specs.Printed.{numbersOf, answered}
+use Rattle.report_text.specs.ReportText.{memberText}
 use Rattle.report.specs.Report.{lineOrNo, memberReportOf}
-use Rattle.report.specs.Claim.{Reported, MemberReported}
-use Rattle.told.specs.declared.Told.{Told}
-use Rattle.told.specs.Told.{told}
-use Rattle.koxaltes.specs.Claim.{lentReportOf, ReportTold, MemberTold}
+use Rattle.report.specs.ReportClaim.{Reported, MemberReported}
+use Rattle.answer_record.specs.declared.AnswerRecord.{AnswerRecord}
+use Rattle.answer_record.specs.AnswerRecord.{answerRecord}
+use Rattle.koxaltes.specs.Entries.{lentReportOf, ReportEntry, MemberEntry}
 
-pub report-told : {src before after : List ℕ} {a : Answer} {r : Told} → Reported src before after a → r ≡ told (numbersOf a) → ReportTold src before after r
-report-told p e = record {
-  answer-is = e ∙ ap told (p .answer-is);
+pub report-entry : {src before after : List ℕ} {a : TextAnswer} {r : AnswerRecord} → Reported src before after a → r ≡ answerRecord (numbersOf a) → ReportEntry src before after r
+report-entry p e = record {
+  answer-is = e ∙ ap answerRecord (p .answer-is);
   buffer-is = p .buffer-is;
   claim = λ ms s z. rw e (p .claim ms s (rw e at z));
 }
 
-pub member-told : {x y : Built} {before after : List ℕ} {a : Answer} {r : Told} → x ≡ y → MemberReported x before after a → r ≡ told (numbersOf a) → MemberTold (memberReportOf y) (memberOf y) before after r
-member-told {before = before} {after = after} {r = r} i p e =
-    subst (λ (b : Built). MemberTold (memberReportOf b) (memberOf b) before after r) i
-    (record { answer-is = e ∙ ap told (p .answer-is); buffer-is = p .buffer-is; claim = λ z. rw e (p .claim (rw e at z)) })
+pub member-entry : {x y : Built} {before after : List ℕ} {a : TextAnswer} {r : AnswerRecord} → x ≡ y → MemberReported x before after a → r ≡ answerRecord (numbersOf a) → MemberEntry (memberReportOf y) (memberOf y) before after r
+member-entry {before = before} {after = after} {r = r} i p e =
+    subst (λ (b : Built). MemberEntry (memberReportOf b) (memberOf b) before after r) i
+    (record { answer-is = e ∙ ap answerRecord (p .answer-is); buffer-is = p .buffer-is; claim = λ z. rw e (p .claim (rw e at z)) })
 
 -- The built member made of the groups that the counts name is the lent one.
 module _ (x : Lent) (first second : List Group) where
@@ -49,15 +49,15 @@ module _ (x : Lent) (first second : List Group) where
       of-verdict Accepted e = ap (λ (m : Member). got (memberText m)) (lent-member x first second e)
       of-verdict (Refused q) e = refl
 
-  accepted : (room : ℕ) {r : Told} → r ≡ told (answered 1 (memberReportOf (copied x first second)) room) → r .question ≡ 0 → memberOf (copied x first second) ≡ lentMember x first second
+  accepted : (room : ℕ) {r : AnswerRecord} → r ≡ answerRecord (answered 1 (memberReportOf (copied x first second)) room) → r .question ≡ 0 → memberOf (copied x first second) ≡ lentMember x first second
   unfolding memberReportOf
   accepted room e z = lent-member x first second (of-verdict (builtVerdict (x .mark) (x .kind) (slots x first second)) (rw e at z))
     where
-      of-verdict : (w : Verdict) → told (answered 1 (lineOrNo w (memberOf (copied x first second))) room) .question ≡ 0 → w ≡ Accepted
+      of-verdict : (w : Verdict) → answerRecord (answered 1 (lineOrNo w (memberOf (copied x first second))) room) .question ≡ 0 → w ≡ Accepted
       of-verdict Accepted h = refl
       of-verdict (Refused q) h = absurd (numbered q h)
 
-  lent-copied : {before after : List ℕ} {r : Told} → MemberTold (memberReportOf (copied x first second)) (memberOf (copied x first second)) before after r → MemberTold (lentReportOf x first second) (lentMember x first second) before after r
+  lent-copied : {before after : List ℕ} {r : AnswerRecord} → MemberEntry (memberReportOf (copied x first second)) (memberOf (copied x first second)) before after r → MemberEntry (lentReportOf x first second) (lentMember x first second) before after r
   lent-copied {before = before} {after = after} {r = r} p =
       record {
         answer-is = rw (← lent-report) (p .answer-is);
@@ -65,7 +65,7 @@ module _ (x : Lent) (first second : List Group) where
         claim = λ z. rw (← accepted (length before) {r = r} (p .answer-is) z) (p .claim z);
       }
 
-  pub lent-told : {gs hs : List Group} {before after : List ℕ} {r : Told}
-      → gs ≡ four (take (firstCount (kindOf (x .kind)) (x .fields .v)) first) → hs ≡ four (take (secondCount (kindOf (x .kind)) (x .fields .v)) second)
-      → MemberTold (memberReportOf (builtOf x gs hs)) (memberOf (builtOf x gs hs)) before after r → MemberTold (lentReportOf x first second) (lentMember x first second) before after r
-  lent-told i j p = lent-copied (rw (i, j, slots-again (kindOf (x .kind)) (x .fields .v) (take (firstCount (kindOf (x .kind)) (x .fields .v)) first) (take (secondCount (kindOf (x .kind)) (x .fields .v)) second)) at p)
+  pub lent-entry : {gs hs : List Group} {before after : List ℕ} {r : AnswerRecord}
+      → gs ≡ firstFour (take (firstCount (kindOf (x .kind)) (x .fields .v)) first) → hs ≡ firstFour (take (secondCount (kindOf (x .kind)) (x .fields .v)) second)
+      → MemberEntry (memberReportOf (builtOf x gs hs)) (memberOf (builtOf x gs hs)) before after r → MemberEntry (lentReportOf x first second) (lentMember x first second) before after r
+  lent-entry i j p = lent-copied (rw (i, j, slots-again (kindOf (x .kind)) (x .fields .v) (take (firstCount (kindOf (x .kind)) (x .fields .v)) first) (take (secondCount (kindOf (x .kind)) (x .fields .v)) second)) at p)

@@ -1,2 +1,2 @@
 mod Answers
-mod Utilized
+mod UtilizationEntry

@@ -1,2 +1,2 @@
-pub mod Claim
-pub mod Utilized
+pub mod Entries
+pub mod UtilizationEntry

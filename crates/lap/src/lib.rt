@@ -6,9 +6,9 @@ ghost use Rattle.lap.specs.Steps.{lapRow, tensionLap, requiredLap, lapLe
 use anchorage::basic_length;
 use member::Mesh;
 use quantity::Length;
-use quantity::chosen;
 use quantity::div_up;
 use quantity::larger;
+use quantity::select;
 
 // The row of the lap: "with" cross bar if stacked or nested, "without" if flat.
 fn lap_row(lapping: u32) -> u32
@@ -22,10 +22,10 @@ fn tension_lap(x: Mesh) -> u64
     requires { ⌜ AcceptedMesh (meshOf x) ⌝ }
     ensures { λ r. ⌜ r ≡ tensionLap (meshOf x) ⌝ }
 {
-    let least = chosen(x.lapping == 1, 200, 300);
+    let least = select(x.lapping == 1, 200, 300);
     let basic = basic_length(x, lap_row(x.lapping), 0);
     let d = x.d.in_millimetres();
-    let thick = chosen(12 <= d, 5 * d, 0);
+    let thick = select(12 <= d, 5 * d, 0);
     larger(100000 * least, 13 * basic) + 100000 * thick
 }
 
@@ -35,7 +35,7 @@ fn required_lap(x: Mesh) -> u64
     ensures { λ r. ⌜ r ≡ requiredLap (meshOf x) ⌝ }
 {
     let lap = tension_lap(x);
-    chosen(x.compression == 1, larger(150000000, 7 * lap), 10 * lap)
+    select(x.compression == 1, larger(150000000, 7 * lap), 10 * lap)
 }
 
 // 5.3.7: the lap.

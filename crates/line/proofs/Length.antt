@@ -12,7 +12,7 @@ use Rattle.outcome.specs.declared.Figure.the-variants.{Reached, Unreached}
 use Rattle.outcome.specs.declared.Outcome.{Outcome}
 use Rattle.line.specs.Line.{figureWord, lineWords, headWords, refusalWords, lineText}
 use Rattle.line.proofs.Text.{line-last, line-more, text-append}
-use Rattle.name.proofs.Names.{name-short}
+use Rattle.check_name.proofs.Names.{name-short}
 
 length-last : (w : List ℕ) → length (lineText (w ∷ [])) ≡ length w + 1
 length-last w = rw line-last (length-append w (10 ∷ []))

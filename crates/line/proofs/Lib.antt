@@ -1,3 +1,3 @@
 pub mod Text
-pub mod Said
+pub mod ParsedLine
 pub mod Length

@@ -1,6 +1,6 @@
 // The printed lines: a report's first line, a member's line, a refusal.
-use name::name_of;
-use numeral::put_decimal;
+use check_name::name_of;
+use decimal::put_decimal;
 use outcome::Figure;
 use outcome::Outcome;
 use text::Word;

@@ -38,7 +38,7 @@ usable-steel code e =
       fy = whole (cell code 2 steels) 600 (cell-between 2 0 600 code steels tt e .1);
       fyc = whole (cell code 3 steels) 600 (cell-between 3 0 600 code steels tt e .1);
       axial = whole (cell code 4 steels) 600 (cell-between 4 0 600 code steels tt e .1);
-      depth = cell-between 5 0 100 code steels tt e .1;
+      depthLimit = cell-between 5 0 100 code steels tt e .1;
     }
 
 pub usable-links : (code : ℕ) → listed code linkSteels ≡ true → WholeUpTo 600 (fyvOf code)

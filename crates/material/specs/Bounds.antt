@@ -1,5 +1,5 @@
 -- What the checks ask of the values of any concrete and steel.
--- An added row of the tables within these bounds moves no proof.
+-- An added row of the tables within these bounds moves no proof of a check.
 use Prim.Native.Nat.{ℕ, _*_, _≤_}
 use mathlib.Core.Path.{_≡_}
 use Rattle.quantity.specs.declared.Stress.{Stress}
@@ -26,4 +26,4 @@ pub record UsableSteel (s : Steel) : Type 0 where
   pub fy : WholeUpTo 600 (s .fy)
   pub fyc : WholeUpTo 600 (s .fyc)
   pub axial : WholeUpTo 600 (s .axial)
-  pub depth : s .depth ≤ 100
+  pub depthLimit : s .depthLimit ≤ 100

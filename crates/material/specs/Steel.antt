@@ -22,7 +22,7 @@ steelOf code =
       fy = stressOf (cell code 2 steels);
       fyc = stressOf (cell code 3 steels);
       axial = stressOf (cell code 4 steels);
-      depth = cell code 5 steels;
+      depthLimit = cell code 5 steels;
     }
 
 -- code, fyv (N/mm²); 1 is HPB300, 2 is HRB400

@@ -22,7 +22,7 @@ pub struct Steel {
     pub fy: Stress,
     pub fyc: Stress,
     pub axial: Stress,
-    pub depth: u32,
+    pub depthLimit: u32,
 }
 
 // Whether there is such a grade of concrete.
@@ -135,15 +135,15 @@ pub fn is_steel(code: u32) -> bool
 }
 
 // A steel from its strengths in N/mm² and its depth limit.
-fn steel_row(fyk: u32, fy: u32, fyc: u32, axial: u32, depth: u32) -> Steel
-    ensures { λ r. ⌜ r ≡ record { fyk = stressOf fyk; fy = stressOf fy; fyc = stressOf fyc; axial = stressOf axial; depth = depth } ⌝ }
+fn steel_row(fyk: u32, fy: u32, fyc: u32, axial: u32, depthLimit: u32) -> Steel
+    ensures { λ r. ⌜ r ≡ record { fyk = stressOf fyk; fy = stressOf fy; fyc = stressOf fyc; axial = stressOf axial; depthLimit = depthLimit } ⌝ }
 {
     Steel {
         fyk: Stress::of_units(fyk),
         fy: Stress::of_units(fy),
         fyc: Stress::of_units(fyc),
         axial: Stress::of_units(axial),
-        depth: depth,
+        depthLimit: depthLimit,
     }
 }
 

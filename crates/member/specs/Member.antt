@@ -90,9 +90,9 @@ beamOf x =
       s = x .s .0;
       linkSteel = x .linkSteel;
       c = x .c .0;
-      l₀ = x .span .0;
-      M = x .m;
-      Mq = x .mq;
+      l₀ = x .l0 .0;
+      M = x .M;
+      Mq = x .Mq;
       Vd = x .v .0;
       environment = x .environment;
       strict = x .strict;
@@ -108,8 +108,8 @@ columnOf x =
       groups = take (x .count) (x .groups);
       link = x .link;
       s = x .s .0;
-      l₀ = x .span .0;
-      N = x .n .0;
+      l₀ = x .l0 .0;
+      N = x .N .0;
     }
 
 abbrev pub meshOf : code-mesh.Mesh → Mesh

@@ -26,10 +26,10 @@ pub struct Beam {
     pub s: Length,
     pub linkSteel: u32,
     pub c: Length,
-    pub span: Length,
+    pub l0: Length,
     // moments, N·m
-    pub m: u64,
-    pub mq: u64,
+    pub M: u64,
+    pub Mq: u64,
     pub v: Force,
     pub environment: u32,
     pub strict: u32,
@@ -45,8 +45,8 @@ pub struct Column {
     pub groups: [Group; 4],
     pub link: u32,
     pub s: Length,
-    pub span: Length,
-    pub n: Force,
+    pub l0: Length,
+    pub N: Force,
 }
 
 // Kind 3. The last two are the lengths given.

@@ -7,29 +7,29 @@ use native.Mathlib.Omega.{arith}
 use borrow.Author.Tests.{ltb-true, lt-ltb}
 use Rattle.question.specs.declared.Question.{Question}
 use Rattle.question.specs.declared.Question.the-variants.{Mark, Kind}
-use Rattle.number.specs.declared.Number.{Number}
-use Rattle.number.specs.declared.Number.the-variants.{Value}
-use Rattle.number.specs.Number.{numberAt}
+use Rattle.varint.specs.declared.Number.{Number}
+use Rattle.varint.specs.declared.Number.the-variants.{Value}
+use Rattle.varint.specs.Varint.{numberAt}
 use Rattle.member.specs.Member.{Member}
 use Rattle.member.specs.Accepted.{AcceptedMember, AcceptedMembers}
 use Rattle.quantity.proofs.Choice.{both-true}
-use Rattle.field.specs.Fields.{known, kindOf, fieldsOf}
-use Rattle.slots.specs.Slots.{fieldsHold}
-use Rattle.domain.proofs.Between.{in-between}
-use Rattle.built.specs.declared.Built.{Built}
+use Rattle.field_table.specs.Fields.{known, kindOf, fieldsOf}
+use Rattle.field_check.specs.FieldCheck.{fieldsHold}
+use Rattle.field_domain.proofs.InRange.{in-between}
+use Rattle.verdict.specs.declared.Built.{Built}
 use Rattle.question.specs.declared.Verdict.{Verdict}
 use Rattle.question.specs.declared.Verdict.the-variants as verdicts
-use Rattle.built.specs.Built.{memberOf}
-use Rattle.built.specs.Verdict.{markInRange, memberVerdict}
-use Rattle.built.proofs.Accepted.{accepted-member}
+use Rattle.verdict.specs.Built.{memberOf}
+use Rattle.verdict.specs.Verdict.{markInRange, memberVerdict}
+use Rattle.verdict.proofs.Accepted.{accepted-member}
 use Rattle.question.specs.Reading.{Reading, got, no, andThen, passed, Got}
-use Rattle.reading.specs.Placed.{Placed, placed, ofNumber}
-use Rattle.reading.specs.Fields.{empty, checked, fields}
-use Rattle.members.specs.Members.{whole, markRises, markAt, kindAt, member, members}
-use Rattle.reading.specs.Taken.{taken}
-use Rattle.reading.proofs.Checked.{on-checked, passes, number-passes}
-use Rattle.reading.proofs.Held.{fields-held}
-use Rattle.reading.proofs.Taken.{got-is, fields-taken}
+use Rattle.field_validator.specs.Placed.{Placed, placed, ofNumber}
+use Rattle.field_validator.specs.FieldsAt.{empty, checked, fields}
+use Rattle.members.specs.Members.{memberBody, markRises, markAt, kindAt, member, members}
+use Rattle.field_validator.specs.Taken.{taken}
+use Rattle.field_validator.proofs.Checked.{on-checked, passes, number-passes}
+use Rattle.field_validator.proofs.Held.{fields-held}
+use Rattle.field_validator.proofs.Taken.{got-is, fields-taken}
 use Rattle.members.proofs.Members.{first-read}
 
 -- ---- Steps taken apart.
@@ -53,10 +53,10 @@ pub record MemberWas (s : List ℕ) (p before : ℕ) (b : Built) : Type 0 where
   pub accepted : AcceptedMember (memberOf b)
   pub above : before < b .mark
 
-whole-accepted : (mark kind : ℕ) (s : List ℕ) (p : ℕ) (x : Placed Built) → markInRange mark ≡ true → whole mark kind s p ≡ got x
+body-accepted : (mark kind : ℕ) (s : List ℕ) (p : ℕ) (x : Placed Built) → markInRange mark ≡ true → memberBody mark kind s p ≡ got x
     → AcceptedMember (memberOf (x .value)) × (x .value .mark ≡ mark)
-unfolding whole
-whole-accepted mark kind s p x m e =
+unfolding memberBody
+body-accepted mark kind s p x m e =
     let w = went-on (fields (fieldsOf (kindOf kind)) s p 0 empty) _ x e in
     on-verdict (w .value) (memberVerdict (kindOf kind) (w .value .value)) refl (fields-held s (w .value .value) p (w .value .next) (kindOf kind) (w .was)) (w .then)
   where
@@ -74,7 +74,7 @@ member-was s p before b next e =
     let m = went-on (checked Mark (markRises before) s p) _ (placed b next) e in
     let k = went-on (checked Kind known s (m .value .next)) _ (placed b next) (m .then) in
     let t = both-true (markInRange (m .value .value)) _ (passes Mark (markRises before) s p (m .value .value) (m .value .next) (m .was)) in
-    let w = whole-accepted (m .value .value) (k .value .value) s (k .value .next) (placed b next) (t .0) (k .then) in
+    let w = body-accepted (m .value .value) (k .value .value) s (k .value .next) (placed b next) (t .0) (k .then) in
     record { accepted = w .0; above = rw (w .1) (ltb-true _ _ (t .1)) }
 
 pub number-was : (q : Question) (test : ℕ → Bool) (s : List ℕ) (p x next : ℕ) → checked q test s p ≡ got (placed x next) → numberAt s p ≡ Value x next
@@ -109,7 +109,7 @@ pub record MemberParts (s : List ℕ) (p : ℕ) (x : Placed Built) : Type 0 wher
   pub member-is : x .value ≡ record { mark = mark; kind = kind; fields = record { v = slots } }
 
 pub member-parts : (s : List ℕ) (p before : ℕ) (x : Placed Built) → member s p before ≡ got x → MemberParts s p x
-unfolding member markAt kindAt whole
+unfolding member markAt kindAt memberBody
 member-parts s p before x e =
     let m = went-on (checked Mark (markRises before) s p) _ x e in
     let k = went-on (checked Kind known s (m .value .next)) _ x (m .then) in

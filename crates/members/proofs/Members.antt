@@ -6,29 +6,29 @@ use native.Mathlib.Omega.{arith}
 use lib.ListN.{length}
 use Rattle.question.specs.declared.Question.{Question}
 use Rattle.question.specs.declared.Refusal.{Refusal}
-use Rattle.number.specs.declared.Number.{Number}
-use Rattle.number.specs.declared.Number.the-variants.{Value, Refused}
+use Rattle.varint.specs.declared.Number.{Number}
+use Rattle.varint.specs.declared.Number.the-variants.{Value, Refused}
 use Rattle.member.specs.Member.{Member}
-use Rattle.field.specs.declared.MemberKind.{MemberKind}
-use Rattle.field.specs.Fields.{kindOf, fieldsOf}
-use Rattle.built.specs.declared.Built.{Built}
+use Rattle.field_table.specs.declared.MemberKind.{MemberKind}
+use Rattle.field_table.specs.Fields.{kindOf, fieldsOf}
+use Rattle.verdict.specs.declared.Built.{Built}
 use Rattle.question.specs.declared.Verdict.{Verdict}
 use Rattle.question.specs.declared.Verdict.the-variants as verdicts
-use Rattle.built.specs.Built.{memberOf}
-use Rattle.built.specs.Verdict.{memberVerdict}
-use Rattle.members.specs.declared.MemberRead.{MemberRead}
+use Rattle.verdict.specs.Built.{memberOf}
+use Rattle.verdict.specs.Verdict.{memberVerdict}
+use Rattle.members.specs.declared.MemberValidated.{MemberValidated}
 use Rattle.question.specs.Reading.{Reading, got, no, andThen, passed, refusal, named}
-use Rattle.reading.specs.Placed.{Placed, placed, ofNumber}
-use Rattle.reading.specs.Fields.{empty, fields}
-use Rattle.members.specs.Members.{whole, markAt, kindAt, member, members}
-use Rattle.members.specs.Result.{readOf, marked, placeAfter}
+use Rattle.field_validator.specs.Placed.{Placed, placed, ofNumber}
+use Rattle.field_validator.specs.FieldsAt.{empty, fields}
+use Rattle.members.specs.Members.{memberBody, markAt, kindAt, member, members}
+use Rattle.members.specs.MembersResult.{validatedOf, marked, membersEnd}
 
 -- ---- A member.
 
-pub read-got : (r : MemberRead) → r .verdict ≡ verdicts.Accepted → readOf r ≡ got (placed (r .mark) (r .next))
+pub read-got : (r : MemberValidated) → r .verdict ≡ verdicts.Accepted → validatedOf r ≡ got (placed (r .mark) (r .next))
 read-got r e = rw e
 
-pub read-no : (r : MemberRead) (q : Question) → r .verdict ≡ verdicts.Refused q → readOf r ≡ no q
+pub read-no : (r : MemberValidated) (q : Question) → r .verdict ≡ verdicts.Refused q → validatedOf r ≡ no q
 read-no r q e = rw e
 
 -- what the mark of a reading says of it
@@ -52,14 +52,14 @@ marked-no (got b) q e = absurd (let z : _≡_ {A = ℕ} 0 1 = cc in omega arith)
 marked-no (no r) q e = cc
 
 module _ (mark number : ℕ) (kind : MemberKind) (is : kind ≡ kindOf number) (s : List ℕ) (p : ℕ) where
-  pub whole-no : (q : Question) → fields (fieldsOf kind) s p 0 empty ≡ no q → marked (whole mark number s p) ≡ no q
-  unfolding whole
-  whole-no q e = rw (← is, e)
+  pub body-no : (q : Question) → fields (fieldsOf kind) s p 0 empty ≡ no q → marked (memberBody mark number s p) ≡ no q
+  unfolding memberBody
+  body-no q e = rw (← is, e)
 
-  pub whole-passed : (v : List ℕ) (next : ℕ) → fields (fieldsOf kind) s p 0 empty ≡ got (placed v next)
-      → marked (whole mark number s p) ≡ passed (memberVerdict kind v) (got (placed mark next))
-  unfolding whole
-  whole-passed v next e = rw (← is, e) (on-verdict (memberVerdict kind v))
+  pub body-passed : (v : List ℕ) (next : ℕ) → fields (fieldsOf kind) s p 0 empty ≡ got (placed v next)
+      → marked (memberBody mark number s p) ≡ passed (memberVerdict kind v) (got (placed mark next))
+  unfolding memberBody
+  body-passed v next e = rw (← is, e) (on-verdict (memberVerdict kind v))
     where
       on-verdict : (t : Verdict) → marked (passed t (got (placed (record { mark = mark; kind = number; fields = record { v = v } }) next))) ≡ passed t (got (placed mark next))
       on-verdict verdicts.Accepted = refl
@@ -75,9 +75,9 @@ module _ (s : List ℕ) (p before : ℕ) where
     unfolding member
     kind-refused k q g h = rw (sym e ∙ ap ofNumber f, sym g ∙ ap ofNumber h)
 
-    pub member-whole : (k : Number) (kind next : ℕ) → ofNumber k ≡ kindAt s at → k ≡ Value kind next → member s p before ≡ whole mark kind s next
+    pub member-body : (k : Number) (kind next : ℕ) → ofNumber k ≡ kindAt s at → k ≡ Value kind next → member s p before ≡ memberBody mark kind s next
     unfolding member
-    member-whole k kind next g h = rw (sym e ∙ ap ofNumber f, sym g ∙ ap ofNumber h)
+    member-body k kind next g h = rw (sym e ∙ ap ofNumber f, sym g ∙ ap ofNumber h)
 
 -- ---- Members in a row.
 
@@ -94,20 +94,20 @@ module _ (n : ℕ) (s : List ℕ) (p before i : ℕ) (h : 0 < n) where
   member-refused q e = rw (one-more, marked-no (member s p before) q e)
 
   pub member-read : (mark next : ℕ) → marked (member s p before) ≡ got (placed mark next)
-      → placeAfter (members n s p before i) ≡ placeAfter (members (n - 1) s next mark (i + 1))
+      → membersEnd (members n s p before i) ≡ membersEnd (members (n - 1) s next mark (i + 1))
   unfolding members
   member-read mark next e =
       let m = marked-got (member s p before) mark next e in
-      ap (λ (k : ℕ). placeAfter (members k s p before i)) one-more
+      ap (λ (k : ℕ). membersEnd (members k s p before i)) one-more
       ∙ after (m .built) (m .was)
-      ∙ ap (λ (k : ℕ). placeAfter (members (n - 1) s next k (i + 1))) (m .mark-is)
+      ∙ ap (λ (k : ℕ). membersEnd (members (n - 1) s next k (i + 1))) (m .mark-is)
     where
       kept : (m : Member) (o : Reading Refusal (Placed (List Member)))
-          → placeAfter (andThen o (λ ms. got (placed (m ∷ ms .value) (ms .next)))) ≡ placeAfter o
+          → membersEnd (andThen o (λ ms. got (placed (m ∷ ms .value) (ms .next)))) ≡ membersEnd o
       kept m (got ms) = refl
       kept m (no r) = refl
 
-      after : (b : Built) → member s p before ≡ got (placed b next) → placeAfter (members (suc (n - 1)) s p before i) ≡ placeAfter (members (n - 1) s next (b .mark) (i + 1))
+      after : (b : Built) → member s p before ≡ got (placed b next) → membersEnd (members (suc (n - 1)) s p before i) ≡ membersEnd (members (n - 1) s next (b .mark) (i + 1))
       after b f = rw f (kept (memberOf b) (members (n - 1) s next (b .mark) (i + 1)))
 
 -- What a row of n members that was read says of its first member and of the others.

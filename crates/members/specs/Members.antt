@@ -8,17 +8,17 @@ use Rattle.question.specs.declared.Question.{Question}
 use Rattle.question.specs.declared.Question.the-variants.{Mark, Kind}
 use Rattle.question.specs.declared.Refusal.{Refusal}
 use Rattle.member.specs.Member.{Member}
-use Rattle.field.specs.Fields.{known, kindOf, fieldsOf}
-use Rattle.built.specs.declared.Built.{Built}
-use Rattle.built.specs.Built.{memberOf}
-use Rattle.built.specs.Verdict.{markInRange, memberVerdict}
+use Rattle.field_table.specs.Fields.{known, kindOf, fieldsOf}
+use Rattle.verdict.specs.declared.Built.{Built}
+use Rattle.verdict.specs.Built.{memberOf}
+use Rattle.verdict.specs.Verdict.{markInRange, memberVerdict}
 use Rattle.question.specs.Reading.{Reading, got, andThen, passed, named}
-use Rattle.reading.specs.Placed.{Placed, placed}
-use Rattle.reading.specs.Fields.{checked, fields, empty}
+use Rattle.field_validator.specs.Placed.{Placed, placed}
+use Rattle.field_validator.specs.FieldsAt.{checked, fields, empty}
 
 -- the member with this mark and kind, whose fields stand from p on: 7, then 8 to 10
-unfoldable pub whole : ℕ → ℕ → List ℕ → ℕ → Reading Question (Placed Built)
-whole mark kind s p =
+unfoldable pub memberBody : ℕ → ℕ → List ℕ → ℕ → Reading Question (Placed Built)
+memberBody mark kind s p =
     andThen (fields (fieldsOf (kindOf kind)) s p 0 empty) (λ f.
     passed (memberVerdict (kindOf kind) (f .value)) (got (placed (record { mark = mark; kind = kind; fields = record { v = f .value } }) (f .next))))
 
@@ -38,7 +38,7 @@ unfoldable pub member : List ℕ → ℕ → ℕ → Reading Question (Placed Bu
 member s p before =
     andThen (markAt s p before) (λ m.
     andThen (kindAt s (m .next)) (λ k.
-    whole (m .value) (k .value) s (k .next)))
+    memberBody (m .value) (k .value) s (k .next)))
 
 -- n members from p on, the first of them the i-th of the schedule
 unfoldable pub members : ℕ → List ℕ → ℕ → ℕ → ℕ → Reading Refusal (Placed (List Member))

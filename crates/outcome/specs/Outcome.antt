@@ -7,7 +7,7 @@ use Rattle.outcome.specs.declared.Check.the-variants.{
   LeastSteel,
   CompressionDepth,
   Bending,
-  ShallowBending,
+  CoupleBending,
   Shear,
   LinkSpacing,
   LeastLinks,
@@ -56,7 +56,7 @@ nameOf CompressionDepth = 52 ∷ 46 ∷ 50 ∷ 46 ∷ 50 ∷ 45 ∷ 51 ∷ []
 -- 4.2.2
 nameOf Bending = 52 ∷ 46 ∷ 50 ∷ 46 ∷ 50 ∷ []
 -- 4.2.3
-nameOf ShallowBending = 52 ∷ 46 ∷ 50 ∷ 46 ∷ 51 ∷ []
+nameOf CoupleBending = 52 ∷ 46 ∷ 50 ∷ 46 ∷ 51 ∷ []
 -- 4.3.3
 nameOf Shear = 52 ∷ 46 ∷ 51 ∷ 46 ∷ 51 ∷ []
 -- 5.5.6s

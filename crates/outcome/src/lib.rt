@@ -9,10 +9,10 @@ pub enum Check {
     LeastSteel,
     // 4.2.2-3: depth of the compression zone.
     CompressionDepth,
-    // 4.2.2: bending.
+    // 4.2.2: bending, the compression steel yields (x ≥ 2a').
     Bending,
-    // 4.2.3: bending where the compression zone is shallower than twice a'.
-    ShallowBending,
+    // 4.2.3: bending by the couple of tension and compression steel (x < 2a').
+    CoupleBending,
     // 4.3.3: shear.
     Shear,
     // 5.5.6s: spacing of links in a beam.

@@ -43,8 +43,8 @@ smaller a b = min (a .num * b .den) (a .den * b .num) // (a .den * b .den)
 unfoldable pub larger : Frac → Frac → Frac
 larger a b = max (a .num * b .den) (a .den * b .num) // (a .den * b .den)
 
-unfoldable pub held : Frac → Frac → Frac → Frac
-held lo hi a = smaller hi (larger lo a)
+unfoldable pub clampFrac : Frac → Frac → Frac → Frac
+clampFrac lo hi a = smaller hi (larger lo a)
 
 -- at most, below
 abbrev pub _≼_ : Frac → Frac → Type 0

@@ -35,15 +35,15 @@ pub fn larger(a: u64, b: u64) -> u64
     if a < b { b } else { a }
 }
 
-// a - b, and 0 where b is the larger one.
-pub fn less(a: u64, b: u64) -> u64
+// Saturating subtraction: a - b, and 0 where b is the larger one.
+pub fn saturating_sub(a: u64, b: u64) -> u64
     ensures { λ r. ⌜ r ≡ a - b ⌝ }
 {
     if a < b { 0 } else { a - b }
 }
 
 // The value that a test picks.
-pub fn chosen(test: bool, yes: u64, no: u64) -> u64
+pub fn select(test: bool, yes: u64, no: u64) -> u64
     ensures { λ r. ⌜ r ≡ (if test then yes else no) ⌝ }
 {
     if test { yes } else { no }
@@ -56,19 +56,20 @@ pub fn clamped(lo: u64, hi: u64, x: u64) -> u64
     smaller(hi, larger(lo, x))
 }
 
-pub fn both(a: bool, b: bool) -> bool
+// `and`, `or` and `widen` are operators as functions: a proof cites their contracts.
+pub fn and(a: bool, b: bool) -> bool
     ensures { λ r. ⌜ r ≡ (a && b) ⌝ }
 {
     if a { b } else { false }
 }
 
-pub fn either(a: bool, b: bool) -> bool
+pub fn or(a: bool, b: bool) -> bool
     ensures { λ r. ⌜ r ≡ (a || b) ⌝ }
 {
     if a { true } else { b }
 }
 
-pub fn wide(x: u32) -> u64
+pub fn widen(x: u32) -> u64
     ensures { λ r. ⌜ r ≡ x ⌝ }
 {
     x as u64
@@ -121,7 +122,7 @@ impl Length {
     pub fn minus(self, other: Length) -> Length
         ensures { λ r. ⌜ r ≡ millimetres (self .0 - other .0) ⌝ }
     {
-        Length(less(self.0, other.0))
+        Length(saturating_sub(self.0, other.0))
     }
 }
 

@@ -2,7 +2,7 @@
 use mathlib.Core.Path.{_≡_}
 use native.Mathlib.Omega.{arith}
 use Rattle.question.specs.declared.Question.{Question}
-use Rattle.question.specs.declared.Question.the-variants.{Size, NumberEnds, NumberForm, Count, Mark, Kind, Field, Relation, Bars, Ratio, Trailing, Buffer}
+use Rattle.question.specs.declared.Question.the-variants.{Size, NumberEnds, NumberForm, Count, Mark, Kind, Field, Consistency, Bars, Ratio, Trailing, Buffer}
 use Rattle.question.specs.Question.{numberOf}
 
 pub numbered : (q : Question) → numberOf q ≡ 0 → ⊥
@@ -13,7 +13,7 @@ numbered Count e = omega arith
 numbered Mark e = omega arith
 numbered Kind e = omega arith
 numbered Field e = omega arith
-numbered Relation e = omega arith
+numbered Consistency e = omega arith
 numbered Bars e = omega arith
 numbered Ratio e = omega arith
 numbered Trailing e = omega arith

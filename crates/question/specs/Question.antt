@@ -9,7 +9,7 @@ use Rattle.question.specs.declared.Question.the-variants.{
   Mark,
   Kind,
   Field,
-  Relation,
+  Consistency,
   Bars,
   Ratio,
   Trailing,
@@ -24,7 +24,7 @@ numberOf Count = 4
 numberOf Mark = 5
 numberOf Kind = 6
 numberOf Field = 7
-numberOf Relation = 8
+numberOf Consistency = 8
 numberOf Bars = 9
 numberOf Ratio = 10
 numberOf Trailing = 11

@@ -1,4 +1,5 @@
 // The questions that a schedule or a member is put before any check (document 01, "Questions before any check").
+// A question is a rule of validation. Input that gets a no is refused: the first no is the answer, and nothing is checked.
 ghost use mathlib.Core.Path.{_≡_};
 ghost use Rattle.question.specs.Question.{numberOf};
 
@@ -7,7 +8,7 @@ pub enum Question {
     Size,
     // 2: does the number end inside the file?
     NumberEnds,
-    // 3: is the number at most five groups, below 2^32, the last of several groups not zero?
+    // 3: is the number at most five septets, below 2^32, the last of several septets not zero?
     NumberForm,
     // 4: is the member count at most 500?
     Count,
@@ -17,8 +18,8 @@ pub enum Question {
     Kind,
     // 7: is the field in range?
     Field,
-    // 8: do the member's fields stand in the relations that its kind asks for?
-    Relation,
+    // 8: are the member's fields consistent with each other?
+    Consistency,
     // 9: are there at most 40 bars on each face of a beam, or in a column?
     Bars,
     // 10: beam: is 5·S ≤ 2·b·h0, with S the area of the tension bars?
@@ -55,7 +56,7 @@ pub fn number_of(q: Question) -> u32
         Question::Mark => 5,
         Question::Kind => 6,
         Question::Field => 7,
-        Question::Relation => 8,
+        Question::Consistency => 8,
         Question::Bars => 9,
         Question::Ratio => 10,
         Question::Trailing => 11,

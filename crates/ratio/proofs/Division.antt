@@ -107,19 +107,19 @@ finite-between (inf true) h k = absurd h
 finite-between (inf false) h k = absurd k
 finite-between (fin s m e) h k = tt
 
-fair-value : (x : Float) (a c : ℕ) → HasValue x false a c → T (finiteNonneg x)
-fair-value nan a c h = absurd h
-fair-value (inf s) a c h = absurd h
-fair-value (fin true m e) a c h = absurd (true≢false (h .0))
-fair-value (fin false m e) a c h = tt
+nonneg-value : (x : Float) (a c : ℕ) → HasValue x false a c → T (finiteNonneg x)
+nonneg-value nan a c h = absurd h
+nonneg-value (inf s) a c h = absurd h
+nonneg-value (fin true m e) a c h = absurd (true≢false (h .0))
+nonneg-value (fin false m e) a c h = tt
 
-fair-finite : (a b : ℕ) → T (finite (nearest a b)) → T (finiteNonneg (nearest a b))
+nonneg-finite : (a b : ℕ) → T (finite (nearest a b)) → T (finiteNonneg (nearest a b))
 unfolding nearest
-fair-finite a b h = fair-value (round binary64 false a b) (grid binary64 a b) (2 ^ low binary64) (round-val binary64 a b (round-under binary64 a b h))
+nonneg-finite a b h = nonneg-value (round binary64 false a b) (grid binary64 a b) (2 ^ low binary64) (round-val binary64 a b (round-under binary64 a b h))
 
-pub nearest-fair : (a b : ℕ) → a < 2 ^ 53 → 0 < b → T (finiteNonneg (nearest a b))
-nearest-fair a b h p =
-    fair-finite a b
+pub nearest-nonneg : (a b : ℕ) → a < 2 ^ 53 → 0 < b → T (finiteNonneg (nearest a b))
+nearest-nonneg a b h p =
+    nonneg-finite a b
     (finite-between (nearest a b)
     (subst (λ (y : Float). T (le y (nearest a b))) nought-is (nearest-mono 0 1 a b (lit< tt) p (omega arith)))
     (subst (λ (y : Float). T (le (nearest a b) y)) most-is (nearest-mono a b 9007199254740992 1 p (lit< tt) (omega arith))))

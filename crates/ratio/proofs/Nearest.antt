@@ -11,7 +11,7 @@ use Rattle.outcome.specs.declared.Figure.{Figure}
 use Rattle.outcome.specs.declared.Figure.the-variants.{Reached, Unreached}
 use Rattle.ratio.specs.declared.Ratio.{Ratio}
 use Rattle.ratio.specs.Ratio.{quotient, nearest, noRatio, ratio, overFigure, overLimit, ExactFigure, Decides, finiteNonneg}
-use Rattle.ratio.proofs.Division.{quotient-nearest, at-most-one, nearest-fair}
+use Rattle.ratio.proofs.Division.{quotient-nearest, at-most-one, nearest-nonneg}
 
 -- a figure, where it was reached, is n
 abbrev pub Is : ℕ → Figure → Type 0
@@ -62,20 +62,20 @@ limit-decides Unreached n b e k = λ r. absurd (false≢true r)
 abbrev FairRatio : Ratio → Type 0
 FairRatio r = r .reached ≡ true → T (finiteNonneg (r .value))
 
-pub no-ratio-fair : FairRatio noRatio
-no-ratio-fair e = absurd (false≢true e)
+pub no-ratio-nonneg : FairRatio noRatio
+no-ratio-nonneg e = absurd (false≢true e)
 
-ratio-fair : (a b : ℕ) → a < 2 ^ 53 → FairRatio (ratio nearest a b)
+ratio-nonneg : (a b : ℕ) → a < 2 ^ 53 → FairRatio (ratio nearest a b)
 unfolding ratio
-ratio-fair a b h =
-    if-case FairRatio (eqb b 0) noRatio (record { value = nearest a b; reached = true }) (λ _. no-ratio-fair) (λ e _. nearest-fair a b h (some b e))
+ratio-nonneg a b h =
+    if-case FairRatio (eqb b 0) noRatio (record { value = nearest a b; reached = true }) (λ _. no-ratio-nonneg) (λ e _. nearest-nonneg a b h (some b e))
 
-pub figure-fair : (a : ℕ) (f : Figure) → a < 2 ^ 53 → FairRatio (overFigure nearest a f)
+pub figure-nonneg : (a : ℕ) (f : Figure) → a < 2 ^ 53 → FairRatio (overFigure nearest a f)
 unfolding overFigure
-figure-fair a (Reached v) h = ratio-fair a v h
-figure-fair a Unreached h = no-ratio-fair
+figure-nonneg a (Reached v) h = ratio-nonneg a v h
+figure-nonneg a Unreached h = no-ratio-nonneg
 
-pub limit-fair : (f : Figure) (b : ℕ) → ExactFigure f → FairRatio (overLimit nearest f b)
+pub limit-nonneg : (f : Figure) (b : ℕ) → ExactFigure f → FairRatio (overLimit nearest f b)
 unfolding overLimit
-limit-fair (Reached v) b h = ratio-fair v b h
-limit-fair Unreached b h = no-ratio-fair
+limit-nonneg (Reached v) b h = ratio-nonneg v b h
+limit-nonneg Unreached b h = no-ratio-nonneg

@@ -58,8 +58,8 @@ overLimit over Unreached limit = noRatio
 
 -- ---- The four of a member.
 
-abbrev pub four : Ratio → Ratio → Ratio → Ratio → Utilization
-four a b c d =
+abbrev pub fourRatios : Ratio → Ratio → Ratio → Ratio → Utilization
+fourRatios a b c d =
     record {
       first = a .value;
       second = b .value;

@@ -1,7 +1,7 @@
 // One utilization as a double, and the record of a member's four.
 ghost use mathlib.Core.Path.{_≡_};
 ghost use Prim.Native.Nat.{_<_, _^_};
-ghost use Rattle.ratio.specs.Ratio.{quotient, noRatio, ratio, overFigure, overLimit, four, ExactFigure};
+ghost use Rattle.ratio.specs.Ratio.{quotient, noRatio, ratio, overFigure, overLimit, fourRatios, ExactFigure};
 use outcome::Figure;
 
 // Beams: moment, shear, width, deflection; columns: axial force; meshes: anchorage, lap. A value is 0.0 where its mark is false.
@@ -78,7 +78,7 @@ pub fn over_limit(f: Figure, limit: u64) -> Ratio
 }
 
 pub fn together(a: Ratio, b: Ratio, c: Ratio, d: Ratio) -> Utilization
-    ensures { λ r. ⌜ r ≡ four a b c d ⌝ }
+    ensures { λ r. ⌜ r ≡ fourRatios a b c d ⌝ }
 {
     Utilization {
         first: a.value,

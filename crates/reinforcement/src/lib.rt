@@ -10,7 +10,7 @@ use bars::steel_area;
 use member::Beam;
 use member::Column;
 use member::effective_depth;
-use quantity::both;
+use quantity::and;
 
 // 9, of a beam.
 pub fn beam_bars(x: Beam) -> bool
@@ -21,7 +21,7 @@ pub fn beam_bars(x: Beam) -> bool
     let compression = x.compression;
     let below = bar_count(tension, x.tensions) <= 40;
     let above = bar_count(compression, x.compressions) <= 40;
-    both(below, above)
+    and(below, above)
 }
 
 // 10, of a beam.

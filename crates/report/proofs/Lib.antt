@@ -1,1 +1,1 @@
-pub mod Claim
+pub mod ReportClaim

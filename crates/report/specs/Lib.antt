@@ -1,2 +1,2 @@
 pub mod Report
-pub mod Claim
+pub mod ReportClaim

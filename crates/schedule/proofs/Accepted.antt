@@ -9,14 +9,14 @@ use lib.ListN.{length}
 use borrow.Author.Tests.{leb-true}
 use Rattle.question.specs.declared.Question.{Question}
 use Rattle.question.specs.declared.Question.the-variants.{Size, Count, Trailing}
-use Rattle.number.specs.declared.Number.the-variants.{Value}
-use Rattle.number.specs.Number.{numberAt}
+use Rattle.varint.specs.declared.Number.the-variants.{Value}
+use Rattle.varint.specs.Varint.{numberAt}
 use Rattle.member.specs.Member.{Member}
 use Rattle.member.specs.Accepted.{AcceptedMembers}
 use Rattle.question.specs.Reading.{Reading, got, ask, refusal, named, no}
-use Rattle.reading.specs.Placed.{placed}
-use Rattle.reading.specs.Fields.{checked}
-use Rattle.reading.proofs.Checked.{passes}
+use Rattle.field_validator.specs.Placed.{placed}
+use Rattle.field_validator.specs.FieldsAt.{checked}
+use Rattle.field_validator.proofs.Checked.{passes}
 use Rattle.members.specs.Members.{members}
 use Rattle.members.proofs.Members.{members-length}
 use Rattle.members.proofs.Accepted.{no-got, went-on, number-was, members-accepted}

@@ -8,10 +8,10 @@ use Rattle.question.specs.declared.Question.the-variants.{Size, Count, Trailing
 use Rattle.question.specs.declared.Refusal.{Refusal}
 use Rattle.member.specs.Member.{Member}
 use Rattle.question.specs.Reading.{Reading, got, no, andThen, ask, refusal, named}
-use Rattle.reading.specs.Fields.{checked}
+use Rattle.field_validator.specs.FieldsAt.{checked}
 use Rattle.members.specs.Members.{members}
-use Rattle.schedule.specs.declared.Answer.{Answer}
-use Rattle.schedule.specs.declared.Answer.the-variants.{Accepted, Refused}
+use Rattle.schedule.specs.declared.ScheduleAnswer.{ScheduleAnswer}
+use Rattle.schedule.specs.declared.ScheduleAnswer.the-variants.{Accepted, Refused}
 
 -- the whole: 1, the count (2, 3, 4), the members, 11
 unfoldable pub schedule : List ℕ → Reading Refusal (List Member)
@@ -23,6 +23,6 @@ schedule s =
     (got (ms .value)))))
 
 -- the number of members, or the refusal
-abbrev pub answerOf : Reading Refusal (List Member) → Answer
-answerOf (got ms) = Accepted (length ms)
-answerOf (no r) = Refused r
+abbrev pub scheduleAnswer : Reading Refusal (List Member) → ScheduleAnswer
+scheduleAnswer (got ms) = Accepted (length ms)
+scheduleAnswer (no r) = Refused r

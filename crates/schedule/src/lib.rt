@@ -1,32 +1,32 @@
 // Every byte string is accepted as a schedule, or gets the first question answered no, with its member.
 ghost use mathlib.Core.Path.{_≡_};
 ghost use Rattle.question.specs.Reading.{refusal};
-ghost use Rattle.schedule.specs.Schedule.{schedule, answerOf};
-use members::Ends;
-use members::read_members;
-use number::Number;
-use number::number_at;
+ghost use Rattle.schedule.specs.Schedule.{schedule, scheduleAnswer};
+use members::MembersEnd;
+use members::validate_members;
 use question::Question;
 use question::Refusal;
+use varint::Number;
+use varint::number_at;
 
-pub enum Answer {
+pub enum ScheduleAnswer {
     // every question is passed; the number of members
     Accepted(u32),
     Refused(Refusal),
 }
 
-fn refused(q: Question, member: u32) -> Answer
-    ensures { λ r. ⌜ r ≡ Answer.Refused (refusal q member) ⌝ }
+fn refused(q: Question, member: u32) -> ScheduleAnswer
+    ensures { λ r. ⌜ r ≡ ScheduleAnswer.Refused (refusal q member) ⌝ }
 {
-    Answer::Refused(Refusal {
+    ScheduleAnswer::Refused(Refusal {
         question: q,
         member,
     })
 }
 
-// Every question that is put to a schedule before its report.
-pub fn survey(src: &[u8]) -> Answer
-    ensures { λ r. ⌜ r ≡ answerOf (schedule (now (src .entry))) ⌝ }
+// The validator of a schedule: every question that is put to it before its report.
+pub fn validate_schedule(src: &[u8]) -> ScheduleAnswer
+    ensures { λ r. ⌜ r ≡ scheduleAnswer (schedule (now (src .entry))) ⌝ }
 {
     if 60000 < src.len() {
         return refused(Question::Size, 0);
@@ -37,13 +37,13 @@ pub fn survey(src: &[u8]) -> Answer
             if 500 < count {
                 return refused(Question::Count, 0);
             }
-            match read_members(src, at, count) {
-                Ends::Refused(r) => Answer::Refused(r),
-                Ends::At(end) => {
+            match validate_members(src, at, count) {
+                MembersEnd::Refused(r) => ScheduleAnswer::Refused(r),
+                MembersEnd::At(end) => {
                     if end < src.len() {
                         refused(Question::Trailing, 0)
                     } else {
-                        Answer::Accepted(count)
+                        ScheduleAnswer::Accepted(count)
                     }
                 }
             }

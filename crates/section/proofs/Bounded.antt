@@ -4,8 +4,8 @@ use mathlib.Core.Path.{_≡_}
 use native.Mathlib.Omega.{arith}
 use lib.ListN.{length}
 use Rattle.quantity.proofs.Product.{product-most}
-use Rattle.standard.specs.Bars.{areaOf}
-use Rattle.standard.proofs.Bars.{link-area-most}
+use Rattle.code_tables.specs.Bars.{areaOf}
+use Rattle.code_tables.proofs.Bars.{link-area-most}
 use Rattle.material.proofs.Materials.{usable-concrete, usable-steel, usable-links}
 use Rattle.member.specs.Member.{Beam}
 use Rattle.bars.specs.Sums.{area}

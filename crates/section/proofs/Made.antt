@@ -16,13 +16,13 @@ use Rattle.bars.specs.Sums.{TotalsOf, area}
 use Rattle.section.specs.declared.Section.{Section}
 use Rattle.section.specs.Section.{sectionOf}
 
-module _ (x : Beam) (depth : Length) (flange compression links : ℕ) (t : Totals) (m : Concrete) (s : Steel) (f : Stress) where
+module _ (x : Beam) (h0 : Length) (flange compression links : ℕ) (t : Totals) (m : Concrete) (s : Steel) (f : Stress) where
   abbrev put : Section
   put =
       record {
         b = x .b;
         h = x .h;
-        depth = depth;
+        h0 = h0;
         ac = x .ac;
         flanged = ltb (x .b .0) (x .bf .0);
         flange = flange;
@@ -33,9 +33,9 @@ module _ (x : Beam) (depth : Length) (flange compression links : ℕ) (t : Total
         diameters = t .diameters;
         s = x .s;
         c = x .c;
-        span = x .span;
-        m = x .m;
-        mq = x .mq;
+        l0 = x .l0;
+        M = x .M;
+        Mq = x .Mq;
         v = x .v;
         environment = x .environment;
         strict = x .strict;
@@ -44,10 +44,10 @@ module _ (x : Beam) (depth : Length) (flange compression links : ℕ) (t : Total
         fyv = f;
       }
 
-  pub made : depth .0 ≡ h₀ (beamOf x) → flange ≡ sectionOf (beamOf x) .flange → TotalsOf (beamOf x .tension) t →
+  pub made : h0 .0 ≡ h₀ (beamOf x) → flange ≡ sectionOf (beamOf x) .flange → TotalsOf (beamOf x .tension) t →
       compression ≡ area (beamOf x .compression) → links ≡ sectionOf (beamOf x) .links →
       m ≡ concreteOf (x .concrete) → s ≡ steelOf (x .steel) → f ≡ fyvOf (x .linkSteel) → put ≡ sectionOf (beamOf x)
   unfolding sectionOf
   made d e totals g k p q r =
-      let d′ : depth ≡ millimetres (h₀ (beamOf x)) = ap millimetres d in
+      let d′ : h0 ≡ millimetres (h₀ (beamOf x)) = ap millimetres d in
       rw (d′, e, totals .S, totals .E, totals .D, g, k, p, q, r) refl

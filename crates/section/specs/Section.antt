@@ -5,7 +5,7 @@ use Rattle.quantity.specs.declared.Stress.{Stress}
 use Rattle.quantity.specs.Unit.{newtons, millimetres, inUnits, inTenths, inHundredths}
 use Rattle.material.specs.declared.Concrete.{Concrete}
 use Rattle.material.specs.declared.Steel.{Steel}
-use Rattle.standard.specs.Bars.{areaOf}
+use Rattle.code_tables.specs.Bars.{areaOf}
 use Rattle.material.specs.Concrete.{concreteOf}
 use Rattle.material.specs.Steel.{steelOf, fyvOf}
 use Rattle.member.specs.Member.{Beam}
@@ -20,7 +20,7 @@ abbrev pub h : Section → ℕ
 h x = x .h .0
 
 abbrev pub h₀ : Section → ℕ
-h₀ x = x .depth .0
+h₀ x = x .h0 .0
 
 abbrev pub a′ : Section → ℕ
 a′ x = x .ac .0
@@ -32,7 +32,7 @@ abbrev pub c : Section → ℕ
 c x = x .c .0
 
 abbrev pub l₀ : Section → ℕ
-l₀ x = x .span .0
+l₀ x = x .l0 .0
 
 -- area of the flange beside the web, (bf-b)·hf, mm²; G = b·h + (bf-b)·hf, W = b·h + 2·(bf-b)·hf
 abbrev pub flange : Section → ℕ
@@ -41,6 +41,7 @@ flange x = x .flange
 abbrev pub G : Section → ℕ
 G x = b x * h x + flange x
 
+-- twice GB 7.1.2's effective tension area: W = 2·Ate
 abbrev pub W : Section → ℕ
 W x = b x * h x + 2 * flange x
 
@@ -62,10 +63,10 @@ D x = x .diameters
 
 -- moments, N·m, and shear V, N
 abbrev pub M : Section → ℕ
-M x = x .m
+M x = x .M
 
 abbrev pub Mq : Section → ℕ
-Mq x = x .mq
+Mq x = x .Mq
 
 abbrev pub Vd : Section → ℕ
 Vd x = x .v .0
@@ -97,7 +98,7 @@ abbrev pub fyv : Section → ℕ
 fyv x = inUnits (x .fyv)
 
 abbrev pub e : Section → ℕ
-e x = x .steel .depth
+e x = x .steel .depthLimit
 
 -- The section of a beam, for given materials; L = legs times area.
 abbrev pub sectionWith : Beam → Concrete → Steel → Stress → Section
@@ -105,7 +106,7 @@ sectionWith x concrete steel fyv =
     record {
       b = millimetres (x .b);
       h = millimetres (x .h);
-      depth = millimetres (x .h - x .aₛ);
+      h0 = millimetres (x .h - x .aₛ);
       ac = millimetres (x .a′);
       flanged = ltb (x .b) (x .bf);
       flange = (x .bf - x .b) * x .hf;
@@ -116,9 +117,9 @@ sectionWith x concrete steel fyv =
       diameters = sumD (x .tension);
       s = millimetres (x .s);
       c = millimetres (x .c);
-      span = millimetres (x .l₀);
-      m = x .M;
-      mq = x .Mq;
+      l0 = millimetres (x .l₀);
+      M = x .M;
+      Mq = x .Mq;
       v = newtons (x .Vd);
       environment = x .environment;
       strict = x .strict;

@@ -5,6 +5,7 @@ ghost use Rattle.member.specs.Accepted.{AcceptedBeam};
 ghost use Rattle.section.specs.Section.{sectionOf};
 use bars::steel_area;
 use bars::totals_of;
+use code_tables::area_of;
 use material::Concrete;
 use material::Steel;
 use material::concrete_of;
@@ -15,15 +16,14 @@ use member::effective_depth;
 use quantity::Force;
 use quantity::Length;
 use quantity::Stress;
-use quantity::wide;
-use standard::area_of;
+use quantity::widen;
 
 // Document 01's symbols stand beside the fields.
 pub struct Section {
     // b, h, h0 (effective depth), a'
     pub b: Length,
     pub h: Length,
-    pub depth: Length,
+    pub h0: Length,
     pub ac: Length,
     // bf > b
     pub flanged: bool,
@@ -39,10 +39,10 @@ pub struct Section {
     // s, c, l0
     pub s: Length,
     pub c: Length,
-    pub span: Length,
+    pub l0: Length,
     // M and Mq, N·m; V
-    pub m: u64,
-    pub mq: u64,
+    pub M: u64,
+    pub Mq: u64,
     pub v: Force,
     pub environment: u32,
     pub strict: u32,
@@ -56,14 +56,14 @@ fn flange_area(x: Beam) -> u64
     requires { ⌜ AcceptedBeam (beamOf x) ⌝ }
     ensures { λ r. ⌜ r ≡ sectionOf (beamOf x) .flange ⌝ }
 {
-    (x.bf.0 - x.b.0) * x.hf.0
+    (x.bf.in_millimetres() - x.b.in_millimetres()) * x.hf.in_millimetres()
 }
 
 // L, legs times area.
 fn link_area(x: Beam) -> u64
     ensures { λ r. ⌜ r ≡ sectionOf (beamOf x) .links ⌝ }
 {
-    wide(x.legs) * wide(area_of(x.link))
+    widen(x.legs) * widen(area_of(x.link))
 }
 
 // The section of an accepted beam.
@@ -76,7 +76,7 @@ pub fn section_of(x: Beam) -> Section
     let ac = x.ac;
     let s = x.s;
     let c = x.c;
-    let span = x.span;
+    let l0 = x.l0;
     let v = x.v;
     let tension = x.tension;
     let compression = x.compression;
@@ -84,9 +84,9 @@ pub fn section_of(x: Beam) -> Section
     Section {
         b: b,
         h: h,
-        depth: effective_depth(x),
+        h0: effective_depth(x),
         ac: ac,
-        flanged: x.b.0 < x.bf.0,
+        flanged: x.b.in_millimetres() < x.bf.in_millimetres(),
         flange: flange_area(x),
         tension: bars.area,
         compression: steel_area(compression, x.compressions),
@@ -95,9 +95,9 @@ pub fn section_of(x: Beam) -> Section
         diameters: bars.diameters,
         s: s,
         c: c,
-        span: span,
-        m: x.m,
-        mq: x.mq,
+        l0: l0,
+        M: x.M,
+        Mq: x.Mq,
         v: v,
         environment: x.environment,
         strict: x.strict,

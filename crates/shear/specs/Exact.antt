@@ -4,7 +4,7 @@ use Prim.Native.Nat.{_*_, _≤_, _<_}
 use lib.Dec.{ltb}
 use Rattle.quantity.specs.Fraction.{Frac, _//_, whole, _⊕_, _⊗_, _⊘_, _≼_}
 use Rattle.quantity.specs.Unit.{exactStress}
-use Rattle.standard.specs.Spacing.{spacingLimit}
+use Rattle.code_tables.specs.Spacing.{spacingLimit}
 use Rattle.section.specs.declared.Section.{Section}
 use Rattle.section.specs.Section.{b, h, h₀, s, L, Vd, ft, fyv}
 

@@ -4,7 +4,7 @@ use mathlib.Core.Bool.{Bool, true}
 use lib.Dec.{leb, ltb}
 use Rattle.quantity.specs.Choice.{if_then_else_}
 use Rattle.quantity.specs.Rounding.{down}
-use Rattle.standard.specs.Spacing.{spacingLimit}
+use Rattle.code_tables.specs.Spacing.{spacingLimit}
 use Rattle.section.specs.declared.Section.{Section}
 use Rattle.section.specs.Section.{b, h, h₀, s, L, Vd, ft, fyv}
 

@@ -3,17 +3,17 @@ ghost use mathlib.Core.Path.{_≡_};
 ghost use Rattle.quantity.specs.Unit.{newtons};
 ghost use Rattle.section.specs.Bounded.{Bounded};
 ghost use Rattle.shear.specs.Steps.{concretePart, concreteShear, linkShear, shearCapacity, shearAbove, linkSpacing, linksSuffice, leastLinks};
+use code_tables::spacing_limit;
 use quantity::Force;
 use quantity::div_down;
 use section::Section;
-use standard::spacing_limit;
 
 // 7·ft·b·h0, in thousandths of N.
 fn concrete_part(x: Section) -> u64
     requires { ⌜ Bounded x ⌝ }
     ensures { λ r. ⌜ r ≡ concretePart x ⌝ }
 {
-    7 * x.concrete.ft.in_hundredths() * x.b.in_millimetres() * x.depth.in_millimetres()
+    7 * x.concrete.ft.in_hundredths() * x.b.in_millimetres() * x.h0.in_millimetres()
 }
 
 // What the concrete carries of the shear.
@@ -30,7 +30,7 @@ fn link_shear(x: Section) -> Force
     ensures { λ r. ⌜ r ≡ newtons (linkShear x) ⌝ }
 {
     let force = x.fyv.in_units() * x.links;
-    Force::of_newtons(div_down(force * x.depth.in_millimetres(), 10 * x.s.in_millimetres()))
+    Force::of_newtons(div_down(force * x.h0.in_millimetres(), 10 * x.s.in_millimetres()))
 }
 
 // 4.3.3.

@@ -9,8 +9,8 @@ use borrow.Author.Tests.{ltb-true, ltb-false}
 use Rattle.quantity.specs.Rounding.{down}
 use Rattle.quantity.proofs.Choice.{if-case}
 use Rattle.quantity.proofs.Rounding.{expand, down-below, down-above, le-down}
-use Rattle.standard.specs.Slenderness.{point}
-use Rattle.standard.proofs.Slenderness.{point-falls}
+use Rattle.code_tables.specs.Slenderness.{point}
+use Rattle.code_tables.proofs.Slenderness.{point-falls}
 use Rattle.stability.specs.Steps.{interval}
 use Rattle.stability.specs.Exact.{intervalFrom}
 

@@ -1,10 +1,10 @@
 // The stability factor φ of an axially loaded column, 4.2.4: straight between the points of the table.
 ghost use mathlib.Core.Path.{_≡_};
 ghost use Prim.Native.Nat.{_*_, _≤_, _<_};
-ghost use Rattle.stability.specs.Steps.{interval, between, stability};
+ghost use Rattle.stability.specs.Steps.{interval, interpolated, stability};
+use code_tables::point_at;
 use quantity::div_down;
 use quantity::smaller;
-use standard::point_at;
 
 // The interval of table 4.2.4 that l0/b lies in.
 fn interval_of(span: u64, b: u64) -> u32
@@ -15,9 +15,9 @@ fn interval_of(span: u64, b: u64) -> u32
 }
 
 // φ between the points of interval i, where 200·b stands for 1.
-fn between_points(i: u32, span: u64, b: u64) -> u64
+fn interpolate(i: u32, span: u64, b: u64) -> u64
     requires { ⌜ (0 < b) × (b ≤ 1500) × (8 * b ≤ span) × (span ≤ 50 * b) × (i ≡ interval span b) ⌝ }
-    ensures { λ r. ⌜ r ≡ between i span b ⌝ }
+    ensures { λ r. ⌜ r ≡ interpolated i span b ⌝ }
 {
     let p = point_at(i) as u64;
     let q = point_at(i + 1) as u64;
@@ -33,6 +33,6 @@ pub fn stability_of(span: u64, b: u64) -> u64
     if span <= 8 * b {
         200 * b
     } else {
-        between_points(interval_of(span, b), span, b)
+        interpolate(interval_of(span, b), span, b)
     }
 }

@@ -11,9 +11,9 @@ use borrow.Author.Tests.{leb-true, le-leb}
 use Rattle.quantity.specs.Choice.{if_then_else_}
 use Rattle.quantity.proofs.Choice.{and-true, and-assoc}
 use Rattle.bars.specs.declared.Group.{Group}
-use Rattle.lists.specs.Lists.{groupHolds, groupsHold, namedHold}
-use Rattle.lists.specs.Copied.{noGroup, four}
-use Rattle.lists.proofs.Named.{named-groups, named-hold}
+use Rattle.lent_groups.specs.LentGroups.{groupHolds, groupsHold, namedHold}
+use Rattle.lent_groups.specs.CopiedGroups.{noGroup, firstFour}
+use Rattle.lent_groups.proofs.Named.{named-groups, named-hold}
 use Rattle.totals.specs.Totals.{totalsGiven, totalsRefused, barTotals}
 
 -- one group more
@@ -30,17 +30,17 @@ pub four-hold : (n : ℕ) (gs : List Group) → length gs ≡ 4 → n ≤ 4 → 
 unfolding namedHold
 four-hold n gs e h = rw (e, le-leb n 4 h)
 
-pub copied-totals : (n : ℕ) (list : List Group) {gs : List Group} → gs ≡ four (take n list) → barTotals n gs ≡ barTotals n list
+pub copied-totals : (n : ℕ) (list : List Group) {gs : List Group} → gs ≡ firstFour (take n list) → barTotals n gs ≡ barTotals n list
 unfolding barTotals
 copied-totals n list e = rw e (of-count (leb n 4) refl)
   where
     of-groups : n ≤ 4 → (b : Bool) → namedHold n list ≡ b
-        → (if b then totalsGiven (take n (four (take n list))) else totalsRefused) ≡ (if b then totalsGiven (take n list) else totalsRefused)
+        → (if b then totalsGiven (take n (firstFour (take n list))) else totalsRefused) ≡ (if b then totalsGiven (take n list) else totalsRefused)
     of-groups h true k = rw (named-groups n list h k)
     of-groups h false k = refl
 
     of-count : (b : Bool) → leb n 4 ≡ b
-        → (if b && namedHold n (four (take n list)) then totalsGiven (take n (four (take n list))) else totalsRefused)
+        → (if b && namedHold n (firstFour (take n list)) then totalsGiven (take n (firstFour (take n list))) else totalsRefused)
         ≡ (if b && namedHold n list then totalsGiven (take n list) else totalsRefused)
-    of-count true k = let h = leb-true n 4 k in rw (four-hold n (four (take n list)) refl h, named-hold n list h) (of-groups h (namedHold n list) refl)
+    of-count true k = let h = leb-true n 4 k in rw (four-hold n (firstFour (take n list)) refl h, named-hold n list h) (of-groups h (namedHold n list) refl)
     of-count false k = refl

@@ -9,7 +9,7 @@ use Rattle.question.specs.declared.Question.the-variants.{Field}
 use Rattle.question.specs.Question.{numberOf}
 use Rattle.bars.specs.declared.Group.{Group}
 use Rattle.bars.specs.Sums.{barCount, area, sumD, sumE}
-use Rattle.lists.specs.Lists.{namedHold}
+use Rattle.lent_groups.specs.LentGroups.{namedHold}
 use Rattle.totals.specs.declared.BarTotals.{BarTotals}
 
 -- question 0: number of bars; area in tenths of mm²; D, the sum of n·d, and E, the sum of n·d²

@@ -3,13 +3,13 @@ ghost use mathlib.Core.Path.{_≡_};
 ghost use mathlib.Core.Bool.{true};
 ghost use Prim.Native.Nat.{_≤_};
 ghost use lib.ListN.{take};
-ghost use Rattle.lists.specs.Lists.{groupHolds, groupsHold};
+ghost use Rattle.lent_groups.specs.LentGroups.{groupHolds, groupsHold};
 ghost use Rattle.totals.specs.Totals.{totalsGiven, totalsRefused, barTotals};
 use bars::Group;
 use bars::totals_of;
-use domain::is_group_bars;
-use domain::is_group_diameter;
-use quantity::both;
+use field_domain::is_group_bars;
+use field_domain::is_group_diameter;
+use quantity::and;
 use question::Question;
 use question::number_of;
 
@@ -28,7 +28,7 @@ pub struct BarTotals {
 fn group_holds(g: Group) -> bool
     ensures { λ r. ⌜ r ≡ groupHolds g ⌝ }
 {
-    both(is_group_diameter(g.diameter), is_group_bars(g.bars))
+    and(is_group_diameter(g.diameter), is_group_bars(g.bars))
 }
 
 // Question 7 of the first `count` of four groups.
@@ -39,7 +39,7 @@ fn groups_hold(groups: [Group; 4], count: usize) -> bool
     let mut all = true;
     let mut i: usize = 0;
     while i < count {
-        all = both(all, group_holds(groups[i]));
+        all = and(all, group_holds(groups[i]));
         i += 1;
     }
     all

@@ -21,27 +21,26 @@ use Rattle.section.proofs.Bounded.{bounded}
 use Rattle.cracking.specs.Steps.{widthLimit}
 use Rattle.deflection.specs.Steps.{deflection, deflectionHolds}
 use Rattle.deflection.proofs.Bounds.{divisor-between}
-use Rattle.built.specs.declared.Built.{Built}
+use Rattle.verdict.specs.declared.Built.{Built}
 use Rattle.question.specs.declared.Verdict.the-variants.{Accepted, Refused}
-use Rattle.field.specs.declared.MemberKind.{MemberKind}
-use Rattle.field.specs.declared.MemberKind.the-variants as kinds
-use Rattle.field.specs.Fields.{kindOf}
-use Rattle.layout.specs.Layout.{beamAt, columnAt, meshAt, memberAt}
-use Rattle.built.specs.Built.{memberOf}
-use Rattle.built.specs.Verdict.{builtVerdict}
-use Rattle.built.proofs.Accepted.{accepted-built}
-use Rattle.checks.specs.Outcome.{outcomeOf}
+use Rattle.field_table.specs.declared.MemberKind.{MemberKind}
+use Rattle.field_table.specs.declared.MemberKind.the-variants as kinds
+use Rattle.field_layout.specs.Layout.{beamAt, columnAt, meshAt, memberAt}
+use Rattle.verdict.specs.Built.{memberOf}
+use Rattle.verdict.specs.Verdict.{builtVerdict}
+use Rattle.verdict.proofs.Accepted.{accepted-built}
+use Rattle.checks.specs.MemberOutcome.{outcomeOf}
 use Rattle.column.proofs.Safe.{column-given}
 use Rattle.checks.proofs.Figures.{member-short}
 use Rattle.ratio.specs.declared.Utilization.{Utilization}
-use Rattle.utilization.specs.declared.Answer.{Answer}
-use Rattle.utilization.specs.declared.Answer.the-variants as answers
+use Rattle.utilization.specs.declared.UtilizationAnswer.{UtilizationAnswer}
+use Rattle.utilization.specs.declared.UtilizationAnswer.the-variants as answers
 use Rattle.ratio.specs.Ratio.{quotient, nearest, ExactFigures}
 use Rattle.utilization.specs.Utilization.{deflectionLimit, beamUtilization, columnUtilization, meshUtilization, utilizationOf}
 use Rattle.governing.specs.Governing.{ratiosOf, FiniteNonneg}
-use Rattle.utilization.specs.Utilized.{answerOf, DecidesMember, Utilized}
+use Rattle.utilization.specs.Utilized.{utilizationAnswer, DecidesMember, Utilized}
 use Rattle.utilization.proofs.Figures.{exact-figures, beam-figures, axial-figure, mesh-figures}
-use Rattle.ratio.proofs.Nearest.{figure-nearest, limit-nearest, figure-decides, limit-decides, no-ratio-fair, figure-fair, limit-fair}
+use Rattle.ratio.proofs.Nearest.{figure-nearest, limit-nearest, figure-decides, limit-decides, no-ratio-nonneg, figure-nonneg, limit-nonneg}
 
 -- ---- Limits.
 
@@ -116,42 +115,42 @@ member-decides (mesh mark x) a =
 
 -- ---- Those of an accepted member are finite and not negative.
 
-nearest-member-fair : (m : Member) → AcceptedMember m → FiniteNonneg (ratiosOf (utilizationOf nearest m (outcomeOf m)))
+nearest-member-nonneg : (m : Member) → AcceptedMember m → FiniteNonneg (ratiosOf (utilizationOf nearest m (outcomeOf m)))
 unfolding beamUtilization columnUtilization meshUtilization
-nearest-member-fair (beam mark x) a =
+nearest-member-nonneg (beam mark x) a =
     let s = sectionOf x in
     let t = bounded x (a .1) in
     let e = member-exact (beam mark x) a in (
-      figure-fair (M s) _ (omega (arith, t .M-most)),
-      (figure-fair (Vd s) _ (omega (arith, t .Vd-most)), (limit-fair _ (widthLimit s) (e .third), (limit-fair _ (deflectionLimit s) (e .fourth), tt))),
+      figure-nonneg (M s) _ (omega (arith, t .M-most)),
+      (figure-nonneg (Vd s) _ (omega (arith, t .Vd-most)), (limit-nonneg _ (widthLimit s) (e .third), (limit-nonneg _ (deflectionLimit s) (e .fourth), tt))),
     )
-nearest-member-fair (column mark x) a =
-    (figure-fair (x .N) _ (omega (arith, a .1 .N-most)), (no-ratio-fair, (no-ratio-fair, (no-ratio-fair, tt))))
-nearest-member-fair (mesh mark x) a =
+nearest-member-nonneg (column mark x) a =
+    (figure-nonneg (x .N) _ (omega (arith, a .1 .N-most)), (no-ratio-nonneg, (no-ratio-nonneg, (no-ratio-nonneg, tt))))
+nearest-member-nonneg (mesh mark x) a =
     let e = member-exact (mesh mark x) a in
-    (limit-fair _ (x .anchorage) (e .first), (limit-fair _ (x .lap) (e .second), (no-ratio-fair, (no-ratio-fair, tt))))
+    (limit-nonneg _ (x .anchorage) (e .first), (limit-nonneg _ (x .lap) (e .second), (no-ratio-nonneg, (no-ratio-nonneg, tt))))
 
-member-fair : (m : Member) → AcceptedMember m → FiniteNonneg (ratiosOf (utilizationOf quotient m (outcomeOf m)))
-member-fair m a = rw (member-nearest m a) (nearest-member-fair m a)
+member-nonneg : (m : Member) → AcceptedMember m → FiniteNonneg (ratiosOf (utilizationOf quotient m (outcomeOf m)))
+member-nonneg m a = rw (member-nearest m a) (nearest-member-nonneg m a)
 
 -- ---- By kind.
 
 pub beam-bounded : {x : Beam} {y : Section} → y ≡ sectionOf x → AcceptedBeam x → Bounded y
 beam-bounded {x} e a = rw e (bounded x a)
 
-module _ (mark number : ℕ) (v : List ℕ) (o : Outcome) {kind : MemberKind} {u : Utilization} (is : kind ≡ kindOf number) where
+module _ (mark : ℕ) (v : List ℕ) (o : Outcome) {kind : MemberKind} {u : Utilization} where
   pub of-beam : {x : Beam} {y : Section} → kind ≡ kinds.Beam → x ≡ beamAt v → y ≡ sectionOf x → u ≡ beamUtilization quotient y o →
-      u ≡ utilizationOf quotient (memberAt mark (kindOf number) v) o
+      u ≡ utilizationOf quotient (memberAt mark kind v) o
   unfolding memberAt
-  of-beam p q r e = rw (← is, p) (e ∙ rw (r, q))
+  of-beam p q r e = rw p (e ∙ rw (r, q))
 
-  pub of-column : {x : Column} → kind ≡ kinds.Column → x ≡ columnAt v → u ≡ columnUtilization quotient x o → u ≡ utilizationOf quotient (memberAt mark (kindOf number) v) o
+  pub of-column : {x : Column} → kind ≡ kinds.Column → x ≡ columnAt v → u ≡ columnUtilization quotient x o → u ≡ utilizationOf quotient (memberAt mark kind v) o
   unfolding memberAt
-  of-column p q e = rw (← is, p) (e ∙ rw q)
+  of-column p q e = rw p (e ∙ rw q)
 
-  pub of-mesh : {x : Mesh} → kind ≡ kinds.Mesh → x ≡ meshAt v → u ≡ meshUtilization quotient x o → u ≡ utilizationOf quotient (memberAt mark (kindOf number) v) o
+  pub of-mesh : {x : Mesh} → kind ≡ kinds.Mesh → x ≡ meshAt v → u ≡ meshUtilization quotient x o → u ≡ utilizationOf quotient (memberAt mark kind v) o
   unfolding memberAt
-  of-mesh p q e = rw (← is, p) (e ∙ rw q)
+  of-mesh p q e = rw p (e ∙ rw q)
 
 -- ---- The answer.
 
@@ -161,22 +160,22 @@ accepted-exact x p e =
     let a = accepted-built (x .mark) (x .kind) (x .fields .v) p in
     (a, rw e (member-exact (memberOf x) a))
 
-module _ (x : Built) {answer : Answer} where
+module _ (x : Built) {answer : UtilizationAnswer} where
   pub given : builtVerdict (x .mark) (x .kind) (x .fields .v) ≡ Accepted →
       answer ≡ answers.Given (utilizationOf quotient (memberOf x) (outcomeOf (memberOf x))) → Utilized x answer
-  unfolding answerOf
+  unfolding utilizationAnswer
   given p e =
       let a = accepted-built _ _ _ p in
       record {
         answer-is = rw (p, e);
         nearest-is = λ z. rw e (member-nearest (memberOf x) a);
-        finite = λ z. rw e (member-fair (memberOf x) a);
+        finite = λ z. rw e (member-nonneg (memberOf x) a);
         decides = λ z. rw (e, member-nearest (memberOf x) a) (member-decides (memberOf x) a);
       }
 
   pub refused : (q : Question) → builtVerdict (x .mark) (x .kind) (x .fields .v) ≡ Refused q →
       answer ≡ answers.Refused (record { question = q; member = 1 }) → Utilized x answer
-  unfolding answerOf
+  unfolding utilizationAnswer
   refused q p e =
       record {
         answer-is = rw (p, e);

@@ -9,7 +9,7 @@ use Rattle.section.specs.Section.{sectionOf, l₀, M, Vd}
 use Rattle.cracking.specs.Steps.{widthLimit}
 use Rattle.deflection.specs.Steps.{spanDivisor}
 use Rattle.ratio.specs.declared.Utilization.{Utilization}
-use Rattle.ratio.specs.Ratio.{noRatio, overFigure, overLimit, four}
+use Rattle.ratio.specs.Ratio.{noRatio, overFigure, overLimit, fourRatios}
 
 -- "Deflection's limit is down of the limit in 0.01 mm"
 unfoldable pub deflectionLimit : Section → ℕ
@@ -18,7 +18,7 @@ deflectionLimit x = down (100 * l₀ x) (spanDivisor (l₀ x) (x .strict))
 -- moment, shear, width and deflection
 unfoldable pub beamUtilization : (ℕ → ℕ → Float) → Section → Outcome → Utilization
 beamUtilization over x o =
-    four
+    fourRatios
     (overFigure over (M x) (o .first))
     (overFigure over (Vd x) (o .second))
     (overLimit over (o .third) (widthLimit x))
@@ -26,11 +26,11 @@ beamUtilization over x o =
 
 -- "a column's axial share takes the first place"
 unfoldable pub columnUtilization : (ℕ → ℕ → Float) → Column → Outcome → Utilization
-columnUtilization over x o = four (overFigure over (x .N) (o .first)) noRatio noRatio noRatio
+columnUtilization over x o = fourRatios (overFigure over (x .N) (o .first)) noRatio noRatio noRatio
 
 -- "a mesh's two shares, each figure over the given length, take the first and second"
 unfoldable pub meshUtilization : (ℕ → ℕ → Float) → Mesh → Outcome → Utilization
-meshUtilization over x o = four (overLimit over (o .first) (x .anchorage)) (overLimit over (o .second) (x .lap)) noRatio noRatio
+meshUtilization over x o = fourRatios (overLimit over (o .first) (x .anchorage)) (overLimit over (o .second) (x .lap)) noRatio noRatio
 
 abbrev pub utilizationOf : (ℕ → ℕ → Float) → Member → Outcome → Utilization
 utilizationOf over (beam mark x) o = beamUtilization over (sectionOf x) o

@@ -16,17 +16,17 @@ use Rattle.deflection.specs.Steps.{deflectionHolds}
 use Rattle.axial.specs.Steps.{axialCapacity}
 use Rattle.anchorage.specs.Steps.{anchorageLength}
 use Rattle.lap.specs.Steps.{lapLength}
-use Rattle.built.specs.declared.Built.{Built}
+use Rattle.verdict.specs.declared.Built.{Built}
 use Rattle.question.specs.declared.Verdict.{Verdict}
 use Rattle.question.specs.declared.Verdict.the-variants as verdicts
-use Rattle.built.specs.Built.{memberOf}
-use Rattle.built.specs.Verdict.{builtVerdict}
-use Rattle.checks.specs.Outcome.{outcomeOf}
+use Rattle.verdict.specs.Built.{memberOf}
+use Rattle.verdict.specs.Verdict.{builtVerdict}
+use Rattle.checks.specs.MemberOutcome.{outcomeOf}
 use Rattle.ratio.specs.declared.Utilization.{Utilization}
 use Rattle.governing.specs.Governing.{ratiosOf, FiniteNonneg}
-use Rattle.utilization.specs.declared.Answer.{Answer}
-use Rattle.utilization.specs.declared.Answer.the-variants.{Given, Refused}
-use Rattle.ratio.specs.Ratio.{quotient, nearest, noRatio, four, Decides}
+use Rattle.utilization.specs.declared.UtilizationAnswer.{UtilizationAnswer}
+use Rattle.utilization.specs.declared.UtilizationAnswer.the-variants.{Given, Refused}
+use Rattle.ratio.specs.Ratio.{quotient, nearest, noRatio, fourRatios, Decides}
 use Rattle.utilization.specs.Utilization.{utilizationOf}
 
 -- What an answer says: the number of the question answered no and its member, 0 and 0 where none was; and the four utilizations, none of them reached in a refusal.
@@ -39,19 +39,19 @@ abbrev pub valuesGiven : Utilization → Values
 valuesGiven u = record { question = 0; member = 0; utilization = u }
 
 abbrev pub valuesRefused : Refusal → Values
-valuesRefused r = record { question = numberOf (r .question); member = r .member; utilization = four noRatio noRatio noRatio noRatio }
+valuesRefused r = record { question = numberOf (r .question); member = r .member; utilization = fourRatios noRatio noRatio noRatio noRatio }
 
-abbrev pub valuesOf : Answer → Values
+abbrev pub valuesOf : UtilizationAnswer → Values
 valuesOf (Given u) = valuesGiven u
 valuesOf (Refused r) = valuesRefused r
 
 -- the questions of a single built member; every refusal names member 1
-abbrev pub answerBy : Verdict → Member → Values
-answerBy verdicts.Accepted m = valuesGiven (utilizationOf quotient m (outcomeOf m))
-answerBy (verdicts.Refused q) m = valuesRefused (record { question = q; member = 1 })
+abbrev pub utilizationBy : Verdict → Member → Values
+utilizationBy verdicts.Accepted m = valuesGiven (utilizationOf quotient m (outcomeOf m))
+utilizationBy (verdicts.Refused q) m = valuesRefused (record { question = q; member = 1 })
 
-unfoldable pub answerOf : Built → Values
-answerOf x = answerBy (builtVerdict (x .mark) (x .kind) (x .fields .v)) (memberOf x)
+unfoldable pub utilizationAnswer : Built → Values
+utilizationAnswer x = utilizationBy (builtVerdict (x .mark) (x .kind) (x .fields .v)) (memberOf x)
 
 pub record DecidesBeam (x : Section) (u : Utilization) : Type 0 where
   pub moment : Decides (u .firstReached) (u .first) (leb (M x) (bendingCapacity x))
@@ -72,8 +72,8 @@ DecidesMember (column mark x) u = DecidesColumn x u
 DecidesMember (mesh mark x) u = DecidesMesh x u
 
 -- What `utilization_of` promises: the answer; that each utilization is the double nearest to its fraction, finite and not negative; and that it decides its check.
-pub record Utilized (x : Built) (answer : Answer) : Type 0 where
-  pub answer-is : valuesOf answer ≡ answerOf x
+pub record Utilized (x : Built) (answer : UtilizationAnswer) : Type 0 where
+  pub answer-is : valuesOf answer ≡ utilizationAnswer x
   pub nearest-is : valuesOf answer .question ≡ 0 → valuesOf answer .utilization ≡ utilizationOf nearest (memberOf x) (outcomeOf (memberOf x))
   pub finite : valuesOf answer .question ≡ 0 → FiniteNonneg (ratiosOf (valuesOf answer .utilization))
   pub decides : valuesOf answer .question ≡ 0 → DecidesMember (memberOf x) (valuesOf answer .utilization)

@@ -3,21 +3,18 @@ ghost use mathlib.Core.Path.{_≡_};
 ghost use Rattle.member.specs.Member.{columnOf, meshOf};
 ghost use Rattle.member.specs.Accepted.{AcceptedColumn, AcceptedMesh, AcceptedMember};
 ghost use Rattle.section.specs.Bounded.{Bounded};
-ghost use Rattle.field.specs.Fields.{kindOf};
-ghost use Rattle.layout.specs.Layout.{memberAt};
+ghost use Rattle.field_layout.specs.Layout.{memberAt};
 ghost use Rattle.ratio.specs.Ratio.{quotient, ExactFigures};
 ghost use Rattle.utilization.specs.Utilization.{deflectionLimit, beamUtilization, columnUtilization, meshUtilization, utilizationOf};
 ghost use Rattle.utilization.specs.Utilized.{Utilized};
-use built::Built;
-use built::built_verdict;
 use checks::check_member;
 use cracking::width_limit;
 use deflection::span_divisor;
-use field::MemberKind;
-use field::kind_of;
-use layout::beam_of;
-use layout::column_of;
-use layout::mesh_of;
+use field_layout::beam_of;
+use field_layout::column_of;
+use field_layout::mesh_of;
+use field_table::MemberKind;
+use field_table::kind_of;
 use member::Column;
 use member::Mesh;
 use outcome::Outcome;
@@ -31,8 +28,10 @@ use ratio::over_limit;
 use ratio::together;
 use section::Section;
 use section::section_of;
+use verdict::Built;
+use verdict::built_verdict;
 
-pub enum Answer {
+pub enum UtilizationAnswer {
     Given(Utilization),
     // the first question answered no
     Refused(Refusal),
@@ -43,7 +42,8 @@ fn deflection_limit(x: Section) -> u64
     requires { ⌜ Bounded x ⌝ }
     ensures { λ r. ⌜ r ≡ deflectionLimit x ⌝ }
 {
-    div_down(100 * x.span.0, span_divisor(x.span, x.strict))
+    let span = 100 * x.l0.in_millimetres();
+    div_down(span, span_divisor(x.l0, x.strict))
 }
 
 fn beam_utilization(x: Section, o: Outcome) -> Utilization
@@ -55,8 +55,8 @@ fn beam_utilization(x: Section, o: Outcome) -> Utilization
     let third = o.third;
     let fourth = o.fourth;
     together(
-        over_figure(x.m, first),
-        over_figure(x.v.0, second),
+        over_figure(x.M, first),
+        over_figure(x.v.in_newtons(), second),
         over_limit(third, width_limit(x)),
         over_limit(fourth, deflection_limit(x)),
     )
@@ -68,7 +68,7 @@ fn column_utilization(x: Column, o: Outcome) -> Utilization
 {
     let first = o.first;
     together(
-        over_figure(x.n.0, first),
+        over_figure(x.N.in_newtons(), first),
         no_ratio(),
         no_ratio(),
         no_ratio(),
@@ -82,19 +82,19 @@ fn mesh_utilization(x: Mesh, o: Outcome) -> Utilization
     let first = o.first;
     let second = o.second;
     together(
-        over_limit(first, x.anchorage.0),
-        over_limit(second, x.lap.0),
+        over_limit(first, x.anchorage.in_millimetres()),
+        over_limit(second, x.lap.in_millimetres()),
         no_ratio(),
         no_ratio(),
     )
 }
 
-// Of an accepted member with this outcome, its kind by number.
-fn member_utilization(mark: u32, number: u32, v: &[u32; 40], o: Outcome) -> Utilization
-    requires { ⌜ (AcceptedMember (memberAt mark (kindOf number) (now v))) × (ExactFigures o) ⌝ }
-    ensures { λ r. ⌜ r ≡ utilizationOf quotient (memberAt mark (kindOf number) (now (v .entry))) o ⌝ }
+// Of an accepted member of this kind with this outcome.
+fn member_utilization(mark: u32, kind: MemberKind, v: &[u32; 40], o: Outcome) -> Utilization
+    requires { ⌜ (AcceptedMember (memberAt mark kind (now v))) × (ExactFigures o) ⌝ }
+    ensures { λ r. ⌜ r ≡ utilizationOf quotient (memberAt mark kind (now (v .entry))) o ⌝ }
 {
-    match kind_of(number) {
+    match kind {
         MemberKind::Beam => beam_utilization(section_of(beam_of(v)), o),
         MemberKind::Column => column_utilization(column_of(v), o),
         MemberKind::Mesh => mesh_utilization(mesh_of(v), o),
@@ -102,18 +102,19 @@ fn member_utilization(mark: u32, number: u32, v: &[u32; 40], o: Outcome) -> Util
 }
 
 // The utilization of a member that a caller built.
-pub fn utilization_of(x: Built) -> Answer
+pub fn utilization_of(x: Built) -> UtilizationAnswer
     ensures { λ r. ⌜ Utilized x r ⌝ }
 {
     let v = x.fields.v;
     match built_verdict(x) {
-        Verdict::Refused(q) => Answer::Refused(Refusal {
+        Verdict::Refused(q) => UtilizationAnswer::Refused(Refusal {
             question: q,
             member: 1,
         }),
         Verdict::Accepted => {
-            let o = check_member(x.mark, x.kind, &v);
-            Answer::Given(member_utilization(x.mark, x.kind, &v, o))
+            let kind = kind_of(x.kind);
+            let o = check_member(x.mark, kind, &v);
+            UtilizationAnswer::Given(member_utilization(x.mark, kind, &v, o))
         }
     }
 }

@@ -10,7 +10,7 @@ use lib.Dec.{eqb}
 use lib.ListN.{length, getD, take, drop}
 use lib.Seq.{drop-cons, drop-length, take-append-seam}
 use Rattle.quantity.proofs.Choice.{both-true}
-use Rattle.printing.specs.Printing.{outputOf, PrintedSchedule}
+use Rattle.program_output.specs.ProgramOutput.{outputOf, PrintedSchedule}
 use Rattle.vectors.specs.Vectors.{sameBytes}
 
 -- ---- The test is true exactly where the lists are equal.

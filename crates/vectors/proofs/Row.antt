@@ -6,7 +6,7 @@ use native.Mathlib.Omega.{arith}
 use borrow.Author.Tests.{lt-ltb, le-ltb}
 use lib.ListN.{length, drop, length-append}
 use lib.Seq.{getD-append-seam, getD-append-add, drop-append-add, take-append-seam}
-use Rattle.printing.specs.Printing.{outputOf}
+use Rattle.program_output.specs.ProgramOutput.{outputOf}
 use Rattle.vectors.specs.Vectors.{sameBytes, lengthAt, partAt, partEnd, vectorEnd, equalAt, startsFrom, starts, equalOf, tally, tallyOf}
 use Rattle.vectors.specs.Row.{Vector, partBytes, rowOf, agreeing}
 use Rattle.vectors.proofs.Walk.{whole}

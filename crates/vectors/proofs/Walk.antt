@@ -7,7 +7,7 @@ use native.Mathlib.Omega.{arith}
 use borrow.Author.Tests.{lt-ltb, le-ltb, le-leb, lt-leb}
 use lib.Dec.{ltb}
 use lib.ListN.{length, take, drop}
-use Rattle.printing.specs.Printing.{outputOf}
+use Rattle.program_output.specs.ProgramOutput.{outputOf}
 use Rattle.vectors.specs.declared.Tally.{Tally}
 use Rattle.vectors.specs.Vectors.{sameBytes, lengthAt, partAt, partEnd, vectorEnd, equalAt, oneIf, startsFrom, starts, equalOf, tally, rowTally, tallyOf}
 

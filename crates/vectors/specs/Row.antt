@@ -2,7 +2,7 @@
 use Prim.Native.Nat.{ℕ, _+_, _/_, _%_}
 use mathlib.Core.List.{List, [], _∷_, _++_}
 use lib.ListN.{length}
-use Rattle.printing.specs.Printing.{outputOf}
+use Rattle.program_output.specs.ProgramOutput.{outputOf}
 use Rattle.vectors.specs.Vectors.{sameBytes, oneIf}
 
 pub record Vector : Type 0 where

@@ -7,7 +7,7 @@ use mathlib.Core.List.{List, [], _∷_}
 use lib.Dec.{leb, ltb, eqb}
 use lib.ListN.{length, getD, take, drop}
 use Rattle.quantity.specs.Choice.{if_then_else_}
-use Rattle.printing.specs.Printing.{outputOf}
+use Rattle.program_output.specs.ProgramOutput.{outputOf}
 use Rattle.vectors.specs.declared.Tally.{Tally}
 
 -- as many bytes, and the same ones

@@ -5,9 +5,9 @@
 ghost use mathlib.Core.Path.{_≡_};
 ghost use Prim.Native.Nat.{_+_, _≤_, _<_};
 ghost use lib.ListN.{length, getD, take};
-ghost use Rattle.printing.specs.Printing.{outputOf};
+ghost use Rattle.program_output.specs.ProgramOutput.{outputOf};
 ghost use Rattle.vectors.specs.Vectors.{sameBytes, lengthAt, partEnd, equalAt, oneIf, rowTally, tallyOf};
-use printing::print_schedule;
+use program_output::print_schedule;
 
 struct Tally {
     vectors: u64,
@@ -20,7 +20,7 @@ fn one_if(b: bool) -> u64
     if b { 1 } else { 0 }
 }
 
-fn wide(x: u8) -> usize
+fn widen(x: u8) -> usize
     ensures { λ r. ⌜ (r ≡ x) × (r < 256) ⌝ }
 {
     x as usize
@@ -30,7 +30,7 @@ fn wide(x: u8) -> usize
 fn byte_at(src: &[u8], p: usize) -> usize
     ensures { λ r. ⌜ (r ≡ getD (now (src .entry)) p 0) × (r < 256) ⌝ }
 {
-    if p < src.len() { wide(src[p]) } else { 0 }
+    if p < src.len() { widen(src[p]) } else { 0 }
 }
 
 // The length in the two bytes at p.
@@ -108,7 +108,7 @@ fn row_tally(src: &[u8]) -> Tally
     }
 }
 
-// The tally of the first n bytes of `all`, which has room for oneIf byte more than an input may have, so that a longer one is seen.
+// The tally of the first n bytes of `all`, which has room for one byte more than an input may have, so that a longer one is seen.
 fn input_tally(all: &[u8], n: usize) -> Tally
     requires { ⌜ (n ≤ length (now all)) × (length (now all) ≡ 200001) ⌝ }
     ensures { λ r. ⌜ r ≡ tallyOf (take n (now (all .entry))) ⌝ }

@@ -10,11 +10,11 @@ use Rattle.anchorage.proofs.basic_length.Statement.{statement}
 use Rattle.anchorage.proofs.basic_length.Tie as tie
 
 sizes : (c : tie.After-in-millimetres) →
-    Plain (c .before .before .before .before .multiple-of .result) (c .in-millimetres .result) (c .before .before .chosen .result) (c .before .chosen2 .result)
+    Plain (c .before .before .before .before .multiple-of .result) (c .in-millimetres .result) (c .before .before .select .result) (c .before .select2 .result)
 sizes c =
     let k = c .before .before in
     let s = k .before .before .before in
-    rw (c .in-millimetres .ensures, c .before .chosen2 .ensures, k .chosen .ensures, k .before .before .multiple-of .ensures)
+    rw (c .in-millimetres .ensures, c .before .select2 .ensures, k .select .ensures, k .before .before .multiple-of .ensures)
     (plain (meshOf (s .args .x)) (s .pre .0) (s .args .cross) (s .args .apart) (s .pre .1))
 
 value : (c : tie.After-seismic-factor) →
@@ -23,7 +23,7 @@ value : (c : tie.After-seismic-factor) →
 unfolding basicLength
 value c =
     let k = c .before .before .before in
-    rw (c .seismic-factor .ensures, c .before .larger .ensures, c .before .before .in-millimetres .ensures, k .chosen2 .ensures, k .before .chosen .ensures, k .before .before .before .multiple-of .ensures)
+    rw (c .seismic-factor .ensures, c .before .larger .ensures, c .before .before .in-millimetres .ensures, k .select2 .ensures, k .before .select .ensures, k .before .before .before .multiple-of .ensures)
 
 mul-plain : tie.Need-mul-plain
 mul-plain c = omega (arith, sizes c)

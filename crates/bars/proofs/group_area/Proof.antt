@@ -1,5 +1,5 @@
 -- `bars::group_area` meets its contract.
-use Rattle.standard.proofs.Bars.{area-listed}
+use Rattle.code_tables.proofs.Bars.{area-listed}
 use Rattle.bars.specs.Sums.{groupArea}
 use Rattle.bars.proofs.Groups.{fits}
 use borrow.Author.Needs.{needs}
@@ -14,7 +14,7 @@ mul-result c = record { fits = fits _ _ (search needs) (search needs) }
 
 returns : tie.Need-returns
 unfolding groupArea
-returns c = rw (c .before .before .wide .ensures, c .wide2 .ensures, c .before .bar-area .ensures)
+returns c = rw (c .before .before .widen .ensures, c .widen2 .ensures, c .before .bar-area .ensures)
 
 pub group-area-spec : {M : Type 1} → statement M
 group-area-spec =

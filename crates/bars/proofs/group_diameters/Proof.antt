@@ -10,7 +10,7 @@ mul-result c = record { fits = fits _ _ (search needs) (search needs) }
 
 returns : tie.Need-returns
 unfolding groupDiameters
-returns c = rw (c .before .wide .ensures, c .wide2 .ensures)
+returns c = rw (c .before .widen .ensures, c .widen2 .ensures)
 
 pub group-diameters-spec : {M : Type 1} → statement M
 group-diameters-spec = tie.close (tie.spec (λ c κs. search needs) (λ c κs. search needs) mul-result returns)

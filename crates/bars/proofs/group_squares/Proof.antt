@@ -11,11 +11,11 @@ mul-result : tie.Need-mul-result
 mul-result c = record { fits = fits _ _ (search needs) (search needs) }
 
 mul-result-2 : tie.Need-mul-result-2
-mul-result-2 c = record { fits = fits _ _ (search needs) (omega (arith, mul-le-mul {n₁ = c .before .wide2 .result} {m₁ = c .wide3 .result} {n₂ = 50} {m₂ = 50} (omega arith) (omega arith))) }
+mul-result-2 c = record { fits = fits _ _ (search needs) (omega (arith, mul-le-mul {n₁ = c .before .widen2 .result} {m₁ = c .widen3 .result} {n₂ = 50} {m₂ = 50} (omega arith) (omega arith))) }
 
 returns : tie.Need-returns
 unfolding groupSquares
-returns c = rw (c .before .before .wide .ensures, c .before .wide2 .ensures, c .wide3 .ensures)
+returns c = rw (c .before .before .widen .ensures, c .before .widen2 .ensures, c .widen3 .ensures)
 
 pub group-squares-spec : {M : Type 1} → statement M
 group-squares-spec =

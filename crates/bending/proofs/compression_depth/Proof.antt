@@ -11,7 +11,7 @@ mul-limit c = rw (c .in-millimetres .ensures) (omega (arith, sizes (c .before .b
 
 mul-limit-2 : tie.Need-mul-limit-2
 mul-limit-2 c =
-    rw (c .before .in-millimetres .ensures, c .crushing-force .ensures) (omega (arith, sizes (c .before .before .before .pre)))
+    rw (c .before .in-millimetres .ensures, c .block-force-per-mm .ensures) (omega (arith, sizes (c .before .before .before .pre)))
 
 mul-result : tie.Need-mul-result
 mul-result c = omega (arith, sizes (c .before .before .before .before .pre))
@@ -22,13 +22,13 @@ mul-result-2 c = omega (arith, sizes (c .before .before .before .before .before 
 add-result : tie.Need-add-result
 add-result c =
     let s = c .before .before in
-    rw (s .before .in-millimetres .ensures, s .crushing-force .ensures) (omega (arith, sizes (s .before .before .before .pre)))
+    rw (s .before .in-millimetres .ensures, s .block-force-per-mm .ensures) (omega (arith, sizes (s .before .before .before .pre)))
 
 returns : tie.Need-returns
 unfolding compressionDepth
 returns c =
     let s = c .before .before in
-    rw (c .compression-force .ensures, c .before .tension-force .ensures, s .crushing-force .ensures, s .before .in-millimetres .ensures)
+    rw (c .compression-force .ensures, c .before .tension-force .ensures, s .block-force-per-mm .ensures, s .before .in-millimetres .ensures)
 
 pub compression-depth-spec : {M : Type 1} → statement M
 compression-depth-spec =

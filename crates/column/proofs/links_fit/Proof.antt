@@ -17,7 +17,7 @@ unfolding linksFit
 returns c =
     let k = c .before .before in
     let t = k .before .before .before .before .before in
-    rw (c .both3 .ensures, c .before .both2 .ensures, k .both .ensures, k .before .in-millimetres2 .ensures, t .totals-of .ensures .smallest-is, t .totals-of .ensures .largest-is, t .before .in-millimetres .ensures)
+    rw (c .and3 .ensures, c .before .and2 .ensures, k .and .ensures, k .before .in-millimetres2 .ensures, t .totals-of .ensures .smallest-is, t .totals-of .ensures .largest-is, t .before .in-millimetres .ensures)
 
 pub links-fit-spec : {M : Type 1} → statement M
 links-fit-spec =

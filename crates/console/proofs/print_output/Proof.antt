@@ -3,14 +3,14 @@ use Prim.Native.Nat.{_≤_}
 use mathlib.Core.Path.{_≡_}
 use native.Mathlib.Omega.{arith}
 use lib.ListN.{length, take}
-use Rattle.printing.proofs.Printing.{within}
+use Rattle.program_output.proofs.ProgramOutput.{within}
 use borrow.Author.Needs.{needs}
 use Rattle.console.proofs.print_output.Statement.{statement}
 use Rattle.console.proofs.print_output.Tie as tie
 use Rattle.console.proofs.print_output.Reads as reads
 use Rattle.console.proofs.print_output.Lts as lts
 use Rattle.io.proofs.write_all.Reads as write-all-reads
-use Rattle.printing.proofs.print_schedule.Reads as print-schedule-reads
+use Rattle.program_output.proofs.print_schedule.Reads as print-schedule-reads
 
 -- what is printed stands within the buffer
 printed : (c : tie.After-print-schedule) →

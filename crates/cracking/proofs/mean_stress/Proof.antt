@@ -9,7 +9,7 @@ returns : tie.Need-returns
 unfolding q
 returns c =
     let k = c .before .before in
-    rw (c .mean-stress-of .ensures, c .before .stiffening-of .ensures, k .weighted-area .ensures, k .before .in-hundredths .ensures, k .before .before .pre .1)
+    rw (c .mean-stress-of .ensures, c .before .stiffening-of .ensures, k .twice-tension-area .ensures, k .before .in-hundredths .ensures, k .before .before .pre .1)
 
 pub mean-stress-spec : {M : Type 1} → statement M
 mean-stress-spec =

@@ -8,7 +8,7 @@ returns : tie.Need-returns
 unfolding meanStress
 returns c =
     let l = c .before .before in
-    rw (c .smaller .ensures, c .before .larger .ensures, l .less .ensures, l .before .div-up2 .ensures, l .before .before .div-up .ensures)
+    rw (c .smaller .ensures, c .before .larger .ensures, l .saturating-sub .ensures, l .before .div-up2 .ensures, l .before .before .div-up .ensures)
 
 pub mean-stress-of-spec : {M : Type 1} → statement M
 mean-stress-of-spec =

@@ -15,12 +15,13 @@ mul-result c =
     omega (
       arith,
       product-most (s .args .figure) (c .span-divisor .result) deflectionMost 400
-          (s .pre .2, rw (c .span-divisor .ensures) (divisor-between (s .args .x .span .0) (s .args .x .strict) .1)),
+          (s .pre .2, rw (c .span-divisor .ensures) (divisor-between (s .args .x .l0 .0) (s .args .x .strict) .1)),
     )
 
 returns : tie.Need-returns
 unfolding deflectionHolds
-returns c = rw (c .before .before .pre .1, c .before .span-divisor .ensures)
+returns c = rw (c .before .before .pre .1, c .before .span-divisor .ensures, c .in-millimetres .ensures)
 
 pub deflection-holds-spec : {M : Type 1} → statement M
-deflection-holds-spec = tie.close (tie.spec (λ c κs. search needs) mul-result (λ c. search needs) returns)
+deflection-holds-spec =
+    tie.close (tie.spec (λ c κs. search needs) mul-result (λ c κs. search needs) (λ c. search needs) returns)

@@ -9,13 +9,13 @@ returns : tie.Need-returns
 unfolding longTerm
 returns c =
     let k = c .before .before in
-    rw (c .before .if1 .taken, c .div-up .ensures, k .less .ensures, k .before .div-down .ensures, k .before .before .smaller .ensures)
+    rw (c .before .if1 .taken, c .div-up .ensures, k .saturating-sub .ensures, k .before .div-down .ensures, k .before .before .smaller .ensures)
 
 returns-2 : tie.Need-returns-2
 unfolding longTerm
 returns-2 c =
     let k = c .before in
-    rw (c .if1 .left, k .less .ensures, k .before .div-down .ensures, k .before .before .smaller .ensures)
+    rw (c .if1 .left, k .saturating-sub .ensures, k .before .div-down .ensures, k .before .before .smaller .ensures)
 
 pub long-term-of-spec : {M : Type 1} → statement M
 long-term-of-spec =

@@ -1,4 +1,4 @@
--- `koxaltes_member_report`: a walk of its code, by hand, since it has slices of structs. `first_groups` copies out of each list what its count names, and `tell_member` is called on the copies.
+-- `koxaltes_member_report`: a walk of its code, by hand, since it has slices of structs. `first_groups` copies out of each list what its count names, and `member_answer` is called on the copies.
 -- The buffer goes to it at its own lifetime, share and name: it is given up for good, and what is said of its last bytes is said of the buffer.
 use mathlib.Core.Path.{_≡_, refl}
 use Prim.Native.Nat.{ℕ}
@@ -40,34 +40,34 @@ use denote.Exit.{yes}
 use Rattle.bars.specs.declared.Group.{Group}
 use Rattle.bars.proofs.Group as G
 use Rattle.bars.proofs.Group.Laws as G′
-use Rattle.built.specs.Built.{memberOf}
+use Rattle.verdict.specs.Built.{memberOf}
 use Rattle.report.specs.Report.{memberReportOf}
-use Rattle.lists.proofs.Copies.{Four, Copied, copies}
-use Rattle.lists.proofs.first_groups.Symbol as copied-def
-use Rattle.lists.proofs.first_groups.Symbol.{name as #lists·first-groups}
-use Rattle.lists.proofs.first_groups.Met as copied-thm
-use Rattle.field.specs.Fields.{kindOf}
-use Rattle.lent.specs.declared.Lent.{Lent}
-use Rattle.lent.specs.Lent.{lentMember, firstCount, secondCount}
-use Rattle.lent.specs.Slots.{builtOf}
-use Rattle.lent.proofs.Calls.{FirstCount, SecondCount, counts-first, counts-second}
-use Rattle.lent.proofs.first_count.Symbol as first-def
-use Rattle.lent.proofs.first_count.Symbol.{name as #lent·first-count}
-use Rattle.lent.proofs.first_count.Met as first-thm
-use Rattle.lent.proofs.second_count.Symbol as second-def
-use Rattle.lent.proofs.second_count.Symbol.{name as #lent·second-count}
-use Rattle.lent.proofs.second_count.Met as second-thm
-use Rattle.lent.proofs.Lent as L
-use Rattle.lent.proofs.Lent.Laws as L′
-use Rattle.told.specs.declared.Told.{Told}
-use Rattle.koxaltes.specs.Claim.{lentReportOf, MemberTold}
-use Rattle.koxaltes.proofs.Answers.{lent-told}
-use Rattle.told.proofs.Told as R
-use Rattle.told.proofs.Told.Laws as R′
-use Rattle.koxaltes.proofs.tell_member as inner
-use Rattle.koxaltes.proofs.tell_member.Symbol as inner-def
-use Rattle.koxaltes.proofs.tell_member.Symbol.{name as #koxaltes·tell-member}
-use Rattle.koxaltes.proofs.tell_member.Met as inner-thm
+use Rattle.lent_groups.proofs.Copies.{Four, Copied, copies}
+use Rattle.lent_groups.proofs.first_groups.Symbol as copied-def
+use Rattle.lent_groups.proofs.first_groups.Symbol.{name as #lent-groups·first-groups}
+use Rattle.lent_groups.proofs.first_groups.Met as copied-thm
+use Rattle.field_table.specs.Fields.{kindOf}
+use Rattle.lent_member.specs.declared.Lent.{Lent}
+use Rattle.lent_member.specs.Lent.{lentMember, firstCount, secondCount}
+use Rattle.lent_member.specs.LentSlots.{builtOf}
+use Rattle.lent_member.proofs.Calls.{FirstCount, SecondCount, counts-first, counts-second}
+use Rattle.lent_member.proofs.first_count.Symbol as first-def
+use Rattle.lent_member.proofs.first_count.Symbol.{name as #lent-member·first-count}
+use Rattle.lent_member.proofs.first_count.Met as first-thm
+use Rattle.lent_member.proofs.second_count.Symbol as second-def
+use Rattle.lent_member.proofs.second_count.Symbol.{name as #lent-member·second-count}
+use Rattle.lent_member.proofs.second_count.Met as second-thm
+use Rattle.lent_member.proofs.Lent as L
+use Rattle.lent_member.proofs.Lent.Laws as L′
+use Rattle.answer_record.specs.declared.AnswerRecord.{AnswerRecord}
+use Rattle.koxaltes.specs.Entries.{lentReportOf, MemberEntry}
+use Rattle.koxaltes.proofs.Answers.{lent-entry}
+use Rattle.answer_record.proofs.AnswerRecord as R
+use Rattle.answer_record.proofs.AnswerRecord.Laws as R′
+use Rattle.koxaltes.proofs.member_answer as inner
+use Rattle.koxaltes.proofs.member_answer.Symbol as inner-def
+use Rattle.koxaltes.proofs.member_answer.Symbol.{name as #koxaltes·member-answer}
+use Rattle.koxaltes.proofs.member_answer.Met as inner-thm
 use Rattle.koxaltes.proofs.koxaltes_member_report.Key.{name as #koxaltes·koxaltes-member-report}
 use Rattle.koxaltes.proofs.koxaltes_member_report as self
 use Rattle.koxaltes.proofs.koxaltes_member_report.Statement as stated
@@ -85,9 +85,9 @@ stayed = (
   ),
 )
 
--- what `tell_member` says
-abbrev Said : Lent → List Group → List Group → List ℕ → List ℕ → Told → Type 0
-Said x gs hs before after r = MemberTold (memberReportOf (builtOf x gs hs)) (memberOf (builtOf x gs hs)) before after r
+-- what `member_answer` says
+abbrev ParsedLine : Lent → List Group → List Group → List ℕ → List ℕ → AnswerRecord → Type 0
+ParsedLine x gs hs before after r = MemberEntry (memberReportOf (builtOf x gs hs)) (memberOf (builtOf x gs hs)) before after r
 
 module _ {M : Type 1} (𝓤 : URA M) (H : Heap 𝓤) (A : Atoms 𝓤) (mem : Memory → SProp 𝓤) (run : Routine → Fun 𝓤) where
   abbrev Inner : Contract 𝓤
@@ -136,7 +136,7 @@ module _ {M : Type 1} (𝓤 : URA M) (H : Heap 𝓤) (A : Atoms 𝓤) (W : Given
   abbrev Post : Val → SProp 𝓤
   Post = walkOf 𝓤 H A self.ended stayed (self.clauses 𝓤 H A mem run) .post ((κs, qs, tt, (x, (s₁, (s₂, (buffer, tt)))), at), tt)
 
-  -- the call of `tell_member` on the copies rs₁ and rs₂ with the machine values u₁ and u₂
+  -- the call of `member_answer` on the copies rs₁ and rs₂ with the machine values u₁ and u₂
   abbrev to-inner : List Group → List Group → Val → Val → Inner 𝓤 H A mem run .Ghost
   to-inner rs₁ rs₂ u₁ u₂ = (((κ₃, tt), (q₃, tt), tt, (x, (rs₁, (rs₂, (buffer, tt)))), (v ∷ [], (u₁ ∷ [], (u₂ ∷ [], (v₃ ∷ [], tt))))), tt)
 
@@ -148,7 +148,7 @@ module _ {M : Type 1} (𝓤 : URA M) (H : Heap 𝓤) (A : Atoms 𝓤) (W : Given
       owned ! L.the-row (Is L.the-row) (LL.makes L.the-type L′.the-plain 𝓤 H A) x (v ∷ []) x-is $ fjoin ! $
       nothing ! $ move ! (2 ∷ 0 ∷ []) $ join ! $ join ! $ frame ! $ done !
 
-  exits : (r : Told) (u : Val) (zs : List ℕ) → MemberTold (lentReportOf x (now s₁) (now s₂)) (lentMember x (now s₁) (now s₂)) ys zs r → length zs ≡ length ys
+  exits : (r : AnswerRecord) (u : Val) (zs : List ℕ) → MemberEntry (lentReportOf x (now s₁) (now s₂)) (lentMember x (now s₁) (now s₂)) ys zs r → length zs ≡ length ys
       → ent 𝓤 (⋆ 𝓤 H A (‵ (R.the-row .own r (u ∷ [])) ∷ (‵ (flft κ₃ q₃) ⊛ ‵ ftrue) ∷ ‵ (finally u8 γ zs) ∷ (‵ (flft κ₂ q₂) ⊛ ‵ ftrue) ∷ ‵ Own₂ ∷ (‵ (flft κ₁ q₁) ⊛ ‵ ftrue) ∷ ‵ Own₁ ∷ [])) (Post u)
   exits r u zs e l =
       qed W (‵ (R.the-row .own r (u ∷ [])) ∷ (‵ (flft κ₃ q₃) ⊛ ‵ ftrue) ∷ ‵ (finally u8 γ zs) ∷ (‵ (flft κ₂ q₂) ⊛ ‵ ftrue) ∷ ‵ Own₂ ∷ (‵ (flft κ₁ q₁) ⊛ ‵ ftrue) ∷ ‵ Own₁ ∷ []) ∵
@@ -161,8 +161,8 @@ module _ {M : Type 1} (𝓤 : URA M) (H : Heap 𝓤) (A : Atoms 𝓤) (W : Given
       nothing ! $ move ! (2 ∷ 0 ∷ []) $ fjoin ! $ move ! (2 ∷ 0 ∷ []) $ fjoin ! $ move ! (2 ∷ 0 ∷ []) $ fjoin ! $
       owned ! L.the-row (Is L.the-row) (LL.makes L.the-type L′.the-plain 𝓤 H A) x (v ∷ []) x-is $ fjoin ! $ frame ! $ done !
 
-  module _ (C : Calls 𝓤 H) (Λ : Loops 𝓤 H) (fm : FmC 𝓤 H (W .laws) C) (known-first : Triple 𝓤 (C #lent·first-count) (FirstCount 𝓤 H A W mem run)) (known-second : Triple 𝓤 (C #lent·second-count) (SecondCount 𝓤 H A W mem run))
-      (known-copied : Triple 𝓤 (C #lists·first-groups) (Copied 𝓤 H A W mem run)) (known-inner : Triple 𝓤 (C #koxaltes·tell-member) (Inner 𝓤 H A mem run)) where
+  module _ (C : Calls 𝓤 H) (Λ : Loops 𝓤 H) (fm : FmC 𝓤 H (W .laws) C) (known-first : Triple 𝓤 (C #lent-member·first-count) (FirstCount 𝓤 H A W mem run)) (known-second : Triple 𝓤 (C #lent-member·second-count) (SecondCount 𝓤 H A W mem run))
+      (known-copied : Triple 𝓤 (C #lent-groups·first-groups) (Copied 𝓤 H A W mem run)) (known-inner : Triple 𝓤 (C #koxaltes·member-answer) (Inner 𝓤 H A mem run)) where
     walk : Is (ShrSlice (named 0) κ₁ G.the-row) s₁ (v₁ ∷ []) → Is (ShrSlice (named 1) κ₂ G.the-row) s₂ (v₂ ∷ []) → Room u8 (length ys)
         → ent 𝓤 (onEntry 𝓤 H A self.signature κs qs (x, (s₁, (s₂, (buffer, tt)))) at) (WpFn 𝓤 H C Λ code.function (v ∷ v₁ ∷ v₂ ∷ v₃ ∷ []) Post)
     walk p₁ p₂ room =
@@ -191,20 +191,20 @@ module _ {M : Type 1} (𝓤 : URA M) (H : Heap 𝓤) (A : Atoms 𝓤) (W : Given
         move ! (4 ∷ 5 ∷ []) $ use2 W (raw (Inner 𝓤 H A mem run .pre (to-inner rs₁ rs₂ u₁ u₂))) (goes-inner rs₁ rs₂ u₁ u₂ is₁ is₂) $
         calls-at ! fm (Inner 𝓤 H A mem run) known-inner (to-inner rs₁ rs₂ u₁ u₂)
         (and-then ! (load ! (from ! (stop !)) (look ! 23 refl)) (and-then ! (load ! (from ! (stop !)) (look ! 15 refl)) (and-then ! (load ! (from ! (stop !)) (look ! 11 refl)) (and-then ! (load ! (from ! (stop !)) (look ! 5 refl)) (no-more !))))) (λ u.
-        use1 W (later (some (λ (r : Told). ((‵ (flft κ₃ q₃) ⊛ ‵ ftrue) ⊛ ‵ (R.the-row .own r (u ∷ []))) ⊛ raw (ensured 𝓤 H A inner.ended (inner.clauses 𝓤 H A mem run) (κ₃, tt) (x, (rs₁, (rs₂, (buffer, tt)))) tt r)))) (id⊢ 𝓤 _) $ await ! tt $ pick ! (λ r.
-        split ! $ move ! (1 ∷ []) $ use1 W (some (λ (zs : Unit {0} × (Unit {0} × (Unit {0} × (List ℕ × Unit {0})))). ‵ (lasts inner.ended (κ₃, tt) (x, (rs₁, (rs₂, (buffer, tt)))) zs) ⊛ raw (fact 𝓤 (Said x rs₁ rs₂ ys (zs .1 .1 .1 .0) r)))) (id⊢ 𝓤 _) $ pick ! (λ zs.
-        split ! $ move ! (1 ∷ []) $ heard ! (Said x rs₁ rs₂ ys (zs .1 .1 .1 .0) r) (λ e. fsplit ! $ drop ! $ fsplit ! $ drop ! $ fsplit ! $ drop ! $ fsplit ! $ fsplit ! $ move ! (1 ∷ []) $ feqL ! (λ l.
+        use1 W (later (some (λ (r : AnswerRecord). ((‵ (flft κ₃ q₃) ⊛ ‵ ftrue) ⊛ ‵ (R.the-row .own r (u ∷ []))) ⊛ raw (ensured 𝓤 H A inner.ended (inner.clauses 𝓤 H A mem run) (κ₃, tt) (x, (rs₁, (rs₂, (buffer, tt)))) tt r)))) (id⊢ 𝓤 _) $ await ! tt $ pick ! (λ r.
+        split ! $ move ! (1 ∷ []) $ use1 W (some (λ (zs : Unit {0} × (Unit {0} × (Unit {0} × (List ℕ × Unit {0})))). ‵ (lasts inner.ended (κ₃, tt) (x, (rs₁, (rs₂, (buffer, tt)))) zs) ⊛ raw (fact 𝓤 (ParsedLine x rs₁ rs₂ ys (zs .1 .1 .1 .0) r)))) (id⊢ 𝓤 _) $ pick ! (λ zs.
+        split ! $ move ! (1 ∷ []) $ heard ! (ParsedLine x rs₁ rs₂ ys (zs .1 .1 .1 .0) r) (λ e. fsplit ! $ drop ! $ fsplit ! $ drop ! $ fsplit ! $ drop ! $ fsplit ! $ fsplit ! $ move ! (1 ∷ []) $ feqL ! (λ l.
         -- [the last bytes; true; token 3 and the result; token 2; what s₂ owns; token 1; what s₁ owns; _10; …; _0; …]
         move ! (2 ∷ []) $ split ! $ move ! (1 ∷ []) $
         peeks ! R.the-row (Is R.the-row) (shows 𝓤 H A R.the-row) r (u ∷ []) (λ is. land ! (from ! (stop !)) (init ! 28 refl (LL.lawful R.the-type R′.the-laws 𝓤 H A W .typed r _ is .0)) $
         returns ! (look ! 28 refl) $ forget ! 8 refl $ forget ! 10 refl $ forget ! 12 refl $ forget ! 14 refl $ forget ! 16 refl $ forget ! 18 refl $ forget ! 20 refl $ forget ! 22 refl $ forget ! 24 refl $ forget ! 26 refl $ forget ! 28 refl $
         move ! (28 ∷ 29 ∷ []) $ free1 ! $ move ! (26 ∷ 27 ∷ []) $ free1 ! $ move ! (24 ∷ 25 ∷ []) $ free1 ! $ move ! (22 ∷ 23 ∷ []) $ free1 ! $ move ! (20 ∷ 21 ∷ []) $ free1 ! $ move ! (18 ∷ 19 ∷ []) $ free1 ! $ move ! (16 ∷ 17 ∷ []) $ free1 ! $ move ! (14 ∷ 15 ∷ []) $ free1 ! $ move ! (12 ∷ 13 ∷ []) $ free1 ! $ move ! (10 ∷ 11 ∷ []) $ free1 ! $ move ! (8 ∷ 9 ∷ []) $ free1 ! $ free0 ! $
         keep ! (0 ∷ 1 ∷ 2 ∷ 4 ∷ 5 ∷ 6 ∷ 7 ∷ []) $
-        by ! (exits r u (zs .1 .1 .1 .0) (lent-told x (now s₁) (now s₂) e₁ e₂ e) l))))))))))))))))))))))
+        by ! (exits r u (zs .1 .1 .1 .0) (lent-entry x (now s₁) (now s₂) e₁ e₂ e) l))))))))))))))))))))))
 
 module _ {M : Type 1} (𝓤 : URA M) (H : Heap 𝓤) (A : Atoms 𝓤) (W : Given 𝓤 H A) (mem : Memory → SProp 𝓤) (run : Routine → Fun 𝓤) where
-  walks : (C : Calls 𝓤 H) (Λ : Loops 𝓤 H) → FmC 𝓤 H (W .laws) C → Triple 𝓤 (C #lent·first-count) (FirstCount 𝓤 H A W mem run) → Triple 𝓤 (C #lent·second-count) (SecondCount 𝓤 H A W mem run)
-      → Triple 𝓤 (C #lists·first-groups) (Copied 𝓤 H A W mem run) → Triple 𝓤 (C #koxaltes·tell-member) (Inner 𝓤 H A mem run)
+  walks : (C : Calls 𝓤 H) (Λ : Loops 𝓤 H) → FmC 𝓤 H (W .laws) C → Triple 𝓤 (C #lent-member·first-count) (FirstCount 𝓤 H A W mem run) → Triple 𝓤 (C #lent-member·second-count) (SecondCount 𝓤 H A W mem run)
+      → Triple 𝓤 (C #lent-groups·first-groups) (Copied 𝓤 H A W mem run) → Triple 𝓤 (C #koxaltes·member-answer) (Inner 𝓤 H A mem run)
       → Walks 𝓤 H A self.ended stayed (WpFn 𝓤 H C Λ code.function) (self.clauses 𝓤 H A mem run)
   walks C Λ fm known-first known-second known-copied known-inner = walked 𝓤 H A self.ended stayed (self.clauses 𝓤 H A mem run) (WpFn 𝓤 H C Λ code.function)
       (λ κs. (LL.vals L.the-type L′.the-laws, (slice-vals, (slice-vals, (slice-vals, tt)))))
@@ -214,8 +214,8 @@ module _ {M : Type 1} (𝓤 : URA M) (H : Heap 𝓤) (A : Atoms 𝓤) (W : Given
       (a .1 .1 .1 .0 .ptr .0) (a .1 .1 .1 .0 .ptr .1) (a .1 .1 .1 .0 .name) (a .1 .1 .1 .0 .now) C Λ fm known-first known-second known-copied known-inner (are .1 .0) (are .1 .1 .0) (are .1 .1 .1 .0 .0 .1)))
 
 meets : {M : Type 1} (𝓤 : URA M) (H : Heap 𝓤) (A : Atoms 𝓤) (W : Given 𝓤 H A) (mem : Memory → SProp 𝓤) (run : Routine → Fun 𝓤) (𝓣 : Tables 𝓤 H)
-    → Triple 𝓤 (𝓣 .C #lent·first-count) (FirstCount 𝓤 H A W mem run) → Triple 𝓤 (𝓣 .C #lent·second-count) (SecondCount 𝓤 H A W mem run)
-    → Triple 𝓤 (𝓣 .C #lists·first-groups) (Copied 𝓤 H A W mem run) → Triple 𝓤 (𝓣 .C #koxaltes·tell-member) (Inner 𝓤 H A mem run)
+    → Triple 𝓤 (𝓣 .C #lent-member·first-count) (FirstCount 𝓤 H A W mem run) → Triple 𝓤 (𝓣 .C #lent-member·second-count) (SecondCount 𝓤 H A W mem run)
+    → Triple 𝓤 (𝓣 .C #lent-groups·first-groups) (Copied 𝓤 H A W mem run) → Triple 𝓤 (𝓣 .C #koxaltes·member-answer) (Inner 𝓤 H A mem run)
     → Meets 𝓤 H A self.signature (WpFn 𝓤 H (𝓣 .C) (𝓣 .Λ) code.function) (self.spec 𝓤 H A mem run)
 meets 𝓤 H A W mem run 𝓣 known-first known-second known-copied known-inner =
     walk-meets 𝓤 H A self.ended stayed W (
@@ -237,7 +237,7 @@ koxaltes-member-report-spec 𝓤 H 𝓜 𝓖 𝓡 =
     entered 𝓤 H (tripleOf 𝓤 H (𝓖 .A) self.signature (self.spec 𝓤 H (𝓖 .A) (𝓜 .mem) (𝓡 .run)))
     (tables 𝓤 H 𝓜 𝓡 code.env .C) (tables 𝓤 H 𝓜 𝓡 code.env .Λ) #koxaltes·koxaltes-member-report code.function (code.unfolded 𝓤 H 𝓜 𝓡)
     (meets 𝓤 H (𝓖 .A) (givenOf 𝓤 H 𝓜 𝓖) (𝓜 .mem) (𝓡 .run) (tablesOf 𝓤 H 𝓜 (tables 𝓤 H 𝓜 𝓡 code.env))
-    (cited 𝓤 H (FirstCount 𝓤 H (𝓖 .A) (givenOf 𝓤 H 𝓜 𝓖) (𝓜 .mem) (𝓡 .run)) 𝓜 𝓡 code.env #lent·first-count first-def.routine code.calls-lent·first-count (first-thm.met 𝓤 H 𝓜 𝓖 𝓡))
-    (cited 𝓤 H (SecondCount 𝓤 H (𝓖 .A) (givenOf 𝓤 H 𝓜 𝓖) (𝓜 .mem) (𝓡 .run)) 𝓜 𝓡 code.env #lent·second-count second-def.routine code.calls-lent·second-count (second-thm.met 𝓤 H 𝓜 𝓖 𝓡))
-    (cited 𝓤 H (Copied 𝓤 H (𝓖 .A) (givenOf 𝓤 H 𝓜 𝓖) (𝓜 .mem) (𝓡 .run)) 𝓜 𝓡 code.env #lists·first-groups copied-def.routine code.calls-lists·first-groups (copied-thm.met 𝓤 H 𝓜 𝓖 𝓡))
-    (cited 𝓤 H (Inner 𝓤 H (𝓖 .A) (𝓜 .mem) (𝓡 .run)) 𝓜 𝓡 code.env #koxaltes·tell-member inner-def.routine code.calls-koxaltes·tell-member (inner-thm.met 𝓤 H 𝓜 𝓖 𝓡)))
+    (cited 𝓤 H (FirstCount 𝓤 H (𝓖 .A) (givenOf 𝓤 H 𝓜 𝓖) (𝓜 .mem) (𝓡 .run)) 𝓜 𝓡 code.env #lent-member·first-count first-def.routine code.calls-lent-member·first-count (first-thm.met 𝓤 H 𝓜 𝓖 𝓡))
+    (cited 𝓤 H (SecondCount 𝓤 H (𝓖 .A) (givenOf 𝓤 H 𝓜 𝓖) (𝓜 .mem) (𝓡 .run)) 𝓜 𝓡 code.env #lent-member·second-count second-def.routine code.calls-lent-member·second-count (second-thm.met 𝓤 H 𝓜 𝓖 𝓡))
+    (cited 𝓤 H (Copied 𝓤 H (𝓖 .A) (givenOf 𝓤 H 𝓜 𝓖) (𝓜 .mem) (𝓡 .run)) 𝓜 𝓡 code.env #lent-groups·first-groups copied-def.routine code.calls-lent-groups·first-groups (copied-thm.met 𝓤 H 𝓜 𝓖 𝓡))
+    (cited 𝓤 H (Inner 𝓤 H (𝓖 .A) (𝓜 .mem) (𝓡 .run)) 𝓜 𝓡 code.env #koxaltes·member-answer inner-def.routine code.calls-koxaltes·member-answer (inner-thm.met 𝓤 H 𝓜 𝓖 𝓡)))

@@ -37,34 +37,34 @@ use denote.Exit.{yes}
 use Rattle.bars.specs.declared.Group.{Group}
 use Rattle.bars.proofs.Group as G
 use Rattle.bars.proofs.Group.Laws as G′
-use Rattle.built.specs.Built.{memberOf}
-use Rattle.utilization.specs.Utilized.{answerOf}
-use Rattle.lists.proofs.Copies.{Four, Copied, copies}
-use Rattle.lists.proofs.first_groups.Symbol as copied-def
-use Rattle.lists.proofs.first_groups.Symbol.{name as #lists·first-groups}
-use Rattle.lists.proofs.first_groups.Met as copied-thm
-use Rattle.field.specs.Fields.{kindOf}
-use Rattle.lent.specs.declared.Lent.{Lent}
-use Rattle.lent.specs.Lent.{lentMember, firstCount, secondCount}
-use Rattle.lent.specs.Slots.{builtOf}
-use Rattle.lent.proofs.Calls.{FirstCount, SecondCount, counts-first, counts-second}
-use Rattle.lent.proofs.first_count.Symbol as first-def
-use Rattle.lent.proofs.first_count.Symbol.{name as #lent·first-count}
-use Rattle.lent.proofs.first_count.Met as first-thm
-use Rattle.lent.proofs.second_count.Symbol as second-def
-use Rattle.lent.proofs.second_count.Symbol.{name as #lent·second-count}
-use Rattle.lent.proofs.second_count.Met as second-thm
-use Rattle.lent.proofs.Lent as L
-use Rattle.lent.proofs.Lent.Laws as L′
-use Rattle.told.specs.declared.UtilizationTold.{UtilizationTold}
-use Rattle.koxaltes.specs.Utilized.{lentUtilizationOf, MemberUtilized}
-use Rattle.koxaltes.proofs.Utilized.{lent-utilized}
-use Rattle.told.proofs.UtilizationTold as R
-use Rattle.told.proofs.UtilizationTold.Laws as R′
-use Rattle.koxaltes.proofs.tell_member_utilization as inner
-use Rattle.koxaltes.proofs.tell_member_utilization.Symbol as inner-def
-use Rattle.koxaltes.proofs.tell_member_utilization.Symbol.{name as #koxaltes·tell-member-utilization}
-use Rattle.koxaltes.proofs.tell_member_utilization.Met as inner-thm
+use Rattle.verdict.specs.Built.{memberOf}
+use Rattle.utilization.specs.Utilized.{utilizationAnswer}
+use Rattle.lent_groups.proofs.Copies.{Four, Copied, copies}
+use Rattle.lent_groups.proofs.first_groups.Symbol as copied-def
+use Rattle.lent_groups.proofs.first_groups.Symbol.{name as #lent-groups·first-groups}
+use Rattle.lent_groups.proofs.first_groups.Met as copied-thm
+use Rattle.field_table.specs.Fields.{kindOf}
+use Rattle.lent_member.specs.declared.Lent.{Lent}
+use Rattle.lent_member.specs.Lent.{lentMember, firstCount, secondCount}
+use Rattle.lent_member.specs.LentSlots.{builtOf}
+use Rattle.lent_member.proofs.Calls.{FirstCount, SecondCount, counts-first, counts-second}
+use Rattle.lent_member.proofs.first_count.Symbol as first-def
+use Rattle.lent_member.proofs.first_count.Symbol.{name as #lent-member·first-count}
+use Rattle.lent_member.proofs.first_count.Met as first-thm
+use Rattle.lent_member.proofs.second_count.Symbol as second-def
+use Rattle.lent_member.proofs.second_count.Symbol.{name as #lent-member·second-count}
+use Rattle.lent_member.proofs.second_count.Met as second-thm
+use Rattle.lent_member.proofs.Lent as L
+use Rattle.lent_member.proofs.Lent.Laws as L′
+use Rattle.answer_record.specs.declared.UtilizationRecord.{UtilizationRecord}
+use Rattle.koxaltes.specs.UtilizationEntry.{lentUtilizationOf, UtilizationEntry}
+use Rattle.koxaltes.proofs.UtilizationEntry.{lent-utilized}
+use Rattle.answer_record.proofs.UtilizationRecord as R
+use Rattle.answer_record.proofs.UtilizationRecord.Laws as R′
+use Rattle.koxaltes.proofs.utilization_answer as inner
+use Rattle.koxaltes.proofs.utilization_answer.Symbol as inner-def
+use Rattle.koxaltes.proofs.utilization_answer.Symbol.{name as #koxaltes·utilization-answer}
+use Rattle.koxaltes.proofs.utilization_answer.Met as inner-thm
 use Rattle.koxaltes.proofs.koxaltes_member_utilization.Key.{name as #koxaltes·koxaltes-member-utilization}
 use Rattle.koxaltes.proofs.koxaltes_member_utilization as self
 use Rattle.koxaltes.proofs.koxaltes_member_utilization.Statement as stated
@@ -79,9 +79,9 @@ stayed = (
   ),
 )
 
--- what `tell_member_utilization` says
-abbrev Said : Lent → List Group → List Group → UtilizationTold → Type 0
-Said x gs hs r = MemberUtilized (answerOf (builtOf x gs hs)) (memberOf (builtOf x gs hs)) r
+-- what `utilization_answer` says
+abbrev ParsedLine : Lent → List Group → List Group → UtilizationRecord → Type 0
+ParsedLine x gs hs r = UtilizationEntry (utilizationAnswer (builtOf x gs hs)) (memberOf (builtOf x gs hs)) r
 
 module _ {M : Type 1} (𝓤 : URA M) (H : Heap 𝓤) (A : Atoms 𝓤) (mem : Memory → SProp 𝓤) (run : Routine → Fun 𝓤) where
   abbrev Inner : Contract 𝓤
@@ -121,7 +121,7 @@ module _ {M : Type 1} (𝓤 : URA M) (H : Heap 𝓤) (A : Atoms 𝓤) (W : Given
   abbrev Post : Val → SProp 𝓤
   Post = walkOf 𝓤 H A self.ended stayed (self.clauses 𝓤 H A mem run) .post ((κs, qs, tt, (x, (s₁, (s₂, tt))), at), tt)
 
-  -- the call of `tell_member_utilization` on the copies rs₁ and rs₂ with the machine values u₁ and u₂
+  -- the call of `utilization_answer` on the copies rs₁ and rs₂ with the machine values u₁ and u₂
   abbrev to-inner : List Group → List Group → Val → Val → Inner 𝓤 H A mem run .Ghost
   to-inner rs₁ rs₂ u₁ u₂ = ((tt, tt, tt, (x, (rs₁, (rs₂, tt))), (v ∷ [], (u₁ ∷ [], (u₂ ∷ [], tt)))), tt)
 
@@ -132,10 +132,10 @@ module _ {M : Type 1} (𝓤 : URA M) (H : Heap 𝓤) (A : Atoms 𝓤) (W : Given
       owned ! Four (Is Four) (array-makes 𝓤 H A W G.the-row (LL.makes G.the-type G′.the-plain 𝓤 H A) 4) rs₁ (u₁ ∷ []) is₁ $ fjoin ! $
       owned ! L.the-row (Is L.the-row) (LL.makes L.the-type L′.the-plain 𝓤 H A) x (v ∷ []) x-is $ fjoin ! $ nothing ! $ join ! $ frame ! $ done !
 
-  inner-said : (rs₁ rs₂ : List Group) (r : UtilizationTold) → ent 𝓤 (ensured 𝓤 H A inner.ended (inner.clauses 𝓤 H A mem run) tt (x, (rs₁, (rs₂, tt))) tt r) (fact 𝓤 (Said x rs₁ rs₂ r))
-  inner-said rs₁ rs₂ r = exE 𝓤 _ (λ ws. snd∗ 𝓤 (sem 𝓤 H A (lasts inner.ended tt (x, (rs₁, (rs₂, tt))) ws)) (fact 𝓤 (Said x rs₁ rs₂ r)))
+  inner-parsed : (rs₁ rs₂ : List Group) (r : UtilizationRecord) → ent 𝓤 (ensured 𝓤 H A inner.ended (inner.clauses 𝓤 H A mem run) tt (x, (rs₁, (rs₂, tt))) tt r) (fact 𝓤 (ParsedLine x rs₁ rs₂ r))
+  inner-parsed rs₁ rs₂ r = exE 𝓤 _ (λ ws. snd∗ 𝓤 (sem 𝓤 H A (lasts inner.ended tt (x, (rs₁, (rs₂, tt))) ws)) (fact 𝓤 (ParsedLine x rs₁ rs₂ r)))
 
-  exits : (r : UtilizationTold) (u : Val) → MemberUtilized (lentUtilizationOf x (now s₁) (now s₂)) (lentMember x (now s₁) (now s₂)) r
+  exits : (r : UtilizationRecord) (u : Val) → UtilizationEntry (lentUtilizationOf x (now s₁) (now s₂)) (lentMember x (now s₁) (now s₂)) r
       → ent 𝓤 (⋆ 𝓤 H A (‵ (R.the-row .own r (u ∷ [])) ∷ (‵ (flft κ₂ q₂) ⊛ ‵ ftrue) ∷ ‵ Own₂ ∷ (‵ (flft κ₁ q₁) ⊛ ‵ ftrue) ∷ ‵ Own₁ ∷ [])) (Post u)
   exits r u e =
       qed W (‵ (R.the-row .own r (u ∷ [])) ∷ (‵ (flft κ₂ q₂) ⊛ ‵ ftrue) ∷ ‵ Own₂ ∷ (‵ (flft κ₁ q₁) ⊛ ‵ ftrue) ∷ ‵ Own₁ ∷ []) ∵
@@ -145,8 +145,8 @@ module _ {M : Type 1} (𝓤 : URA M) (H : Heap 𝓤) (A : Atoms 𝓤) (W : Given
       nothing ! $ move ! (2 ∷ 0 ∷ []) $ fjoin ! $ move ! (2 ∷ 0 ∷ []) $ fjoin ! $
       owned ! L.the-row (Is L.the-row) (LL.makes L.the-type L′.the-plain 𝓤 H A) x (v ∷ []) x-is $ fjoin ! $ frame ! $ done !
 
-  module _ (C : Calls 𝓤 H) (Λ : Loops 𝓤 H) (fm : FmC 𝓤 H (W .laws) C) (known-first : Triple 𝓤 (C #lent·first-count) (FirstCount 𝓤 H A W mem run)) (known-second : Triple 𝓤 (C #lent·second-count) (SecondCount 𝓤 H A W mem run))
-      (known-copied : Triple 𝓤 (C #lists·first-groups) (Copied 𝓤 H A W mem run)) (known-inner : Triple 𝓤 (C #koxaltes·tell-member-utilization) (Inner 𝓤 H A mem run)) where
+  module _ (C : Calls 𝓤 H) (Λ : Loops 𝓤 H) (fm : FmC 𝓤 H (W .laws) C) (known-first : Triple 𝓤 (C #lent-member·first-count) (FirstCount 𝓤 H A W mem run)) (known-second : Triple 𝓤 (C #lent-member·second-count) (SecondCount 𝓤 H A W mem run))
+      (known-copied : Triple 𝓤 (C #lent-groups·first-groups) (Copied 𝓤 H A W mem run)) (known-inner : Triple 𝓤 (C #koxaltes·utilization-answer) (Inner 𝓤 H A mem run)) where
     walk : Is (ShrSlice (named 0) κ₁ G.the-row) s₁ (v₁ ∷ []) → Is (ShrSlice (named 1) κ₂ G.the-row) s₂ (v₂ ∷ [])
         → ent 𝓤 (onEntry 𝓤 H A self.signature κs qs (x, (s₁, (s₂, tt))) at) (WpFn 𝓤 H C Λ code.function (v ∷ v₁ ∷ v₂ ∷ []) Post)
     walk p₁ p₂ =
@@ -171,8 +171,8 @@ module _ {M : Type 1} (𝓤 : URA M) (H : Heap 𝓤) (A : Atoms 𝓤) (W : Given
         use0 W (raw (Inner 𝓤 H A mem run .pre (to-inner rs₁ rs₂ u₁ u₂))) (goes-inner rs₁ rs₂ u₁ u₂ is₁ is₂) $
         calls-at ! fm (Inner 𝓤 H A mem run) known-inner (to-inner rs₁ rs₂ u₁ u₂)
         (and-then ! (load ! (from ! (stop !)) (look ! 17 refl)) (and-then ! (load ! (from ! (stop !)) (look ! 11 refl)) (and-then ! (load ! (from ! (stop !)) (look ! 7 refl)) (no-more !)))) (λ u.
-        use1 W (later (some (λ (r : UtilizationTold). (‵ ftrue ⊛ ‵ (R.the-row .own r (u ∷ []))) ⊛ raw (ensured 𝓤 H A inner.ended (inner.clauses 𝓤 H A mem run) tt (x, (rs₁, (rs₂, tt))) tt r)))) (id⊢ 𝓤 _) $ await ! tt $ pick ! (λ r.
-        split ! $ move ! (1 ∷ []) $ use1 W (raw (fact 𝓤 (Said x rs₁ rs₂ r))) (inner-said rs₁ rs₂ r) $ heard ! (Said x rs₁ rs₂ r) (λ e. split ! $ drop ! $
+        use1 W (later (some (λ (r : UtilizationRecord). (‵ ftrue ⊛ ‵ (R.the-row .own r (u ∷ []))) ⊛ raw (ensured 𝓤 H A inner.ended (inner.clauses 𝓤 H A mem run) tt (x, (rs₁, (rs₂, tt))) tt r)))) (id⊢ 𝓤 _) $ await ! tt $ pick ! (λ r.
+        split ! $ move ! (1 ∷ []) $ use1 W (raw (fact 𝓤 (ParsedLine x rs₁ rs₂ r))) (inner-parsed rs₁ rs₂ r) $ heard ! (ParsedLine x rs₁ rs₂ r) (λ e. split ! $ drop ! $
         -- [the result; token 2; what s₂ owns; token 1; what s₁ owns; _7; …; _0; …]
         peeks ! R.the-row (Is R.the-row) (shows 𝓤 H A R.the-row) r (u ∷ []) (λ is. land ! (from ! (stop !)) (init ! 19 refl (LL.lawful R.the-type R′.the-laws 𝓤 H A W .typed r _ is .0)) $
         returns ! (look ! 19 refl) $ forget ! 5 refl $ forget ! 7 refl $ forget ! 9 refl $ forget ! 11 refl $ forget ! 13 refl $ forget ! 15 refl $ forget ! 17 refl $ forget ! 19 refl $
@@ -180,8 +180,8 @@ module _ {M : Type 1} (𝓤 : URA M) (H : Heap 𝓤) (A : Atoms 𝓤) (W : Given
         by ! (exits r u (lent-utilized x (now s₁) (now s₂) e₁ e₂ e))))))))))))))))))
 
 module _ {M : Type 1} (𝓤 : URA M) (H : Heap 𝓤) (A : Atoms 𝓤) (W : Given 𝓤 H A) (mem : Memory → SProp 𝓤) (run : Routine → Fun 𝓤) where
-  walks : (C : Calls 𝓤 H) (Λ : Loops 𝓤 H) → FmC 𝓤 H (W .laws) C → Triple 𝓤 (C #lent·first-count) (FirstCount 𝓤 H A W mem run) → Triple 𝓤 (C #lent·second-count) (SecondCount 𝓤 H A W mem run)
-      → Triple 𝓤 (C #lists·first-groups) (Copied 𝓤 H A W mem run) → Triple 𝓤 (C #koxaltes·tell-member-utilization) (Inner 𝓤 H A mem run)
+  walks : (C : Calls 𝓤 H) (Λ : Loops 𝓤 H) → FmC 𝓤 H (W .laws) C → Triple 𝓤 (C #lent-member·first-count) (FirstCount 𝓤 H A W mem run) → Triple 𝓤 (C #lent-member·second-count) (SecondCount 𝓤 H A W mem run)
+      → Triple 𝓤 (C #lent-groups·first-groups) (Copied 𝓤 H A W mem run) → Triple 𝓤 (C #koxaltes·utilization-answer) (Inner 𝓤 H A mem run)
       → Walks 𝓤 H A self.ended stayed (WpFn 𝓤 H C Λ code.function) (self.clauses 𝓤 H A mem run)
   walks C Λ fm known-first known-second known-copied known-inner = walked 𝓤 H A self.ended stayed (self.clauses 𝓤 H A mem run) (WpFn 𝓤 H C Λ code.function)
       (λ κs. (LL.vals L.the-type L′.the-laws, (slice-vals, (slice-vals, tt))))
@@ -190,8 +190,8 @@ module _ {M : Type 1} (𝓤 : URA M) (H : Heap 𝓤) (A : Atoms 𝓤) (W : Given
       (walk 𝓤 H A W mem run (κs .0) (κs .1 .0) (qs .0) (qs .1 .0) (a .0) _ (are .0) (a .1 .0) (a .1 .1 .0) C Λ fm known-first known-second known-copied known-inner (are .1 .0) (are .1 .1 .0)))
 
 meets : {M : Type 1} (𝓤 : URA M) (H : Heap 𝓤) (A : Atoms 𝓤) (W : Given 𝓤 H A) (mem : Memory → SProp 𝓤) (run : Routine → Fun 𝓤) (𝓣 : Tables 𝓤 H)
-    → Triple 𝓤 (𝓣 .C #lent·first-count) (FirstCount 𝓤 H A W mem run) → Triple 𝓤 (𝓣 .C #lent·second-count) (SecondCount 𝓤 H A W mem run)
-    → Triple 𝓤 (𝓣 .C #lists·first-groups) (Copied 𝓤 H A W mem run) → Triple 𝓤 (𝓣 .C #koxaltes·tell-member-utilization) (Inner 𝓤 H A mem run)
+    → Triple 𝓤 (𝓣 .C #lent-member·first-count) (FirstCount 𝓤 H A W mem run) → Triple 𝓤 (𝓣 .C #lent-member·second-count) (SecondCount 𝓤 H A W mem run)
+    → Triple 𝓤 (𝓣 .C #lent-groups·first-groups) (Copied 𝓤 H A W mem run) → Triple 𝓤 (𝓣 .C #koxaltes·utilization-answer) (Inner 𝓤 H A mem run)
     → Meets 𝓤 H A self.signature (WpFn 𝓤 H (𝓣 .C) (𝓣 .Λ) code.function) (self.spec 𝓤 H A mem run)
 meets 𝓤 H A W mem run 𝓣 known-first known-second known-copied known-inner =
     walk-meets 𝓤 H A self.ended stayed W (
@@ -210,7 +210,7 @@ koxaltes-member-utilization-spec 𝓤 H 𝓜 𝓖 𝓡 =
     entered 𝓤 H (tripleOf 𝓤 H (𝓖 .A) self.signature (self.spec 𝓤 H (𝓖 .A) (𝓜 .mem) (𝓡 .run)))
     (tables 𝓤 H 𝓜 𝓡 code.env .C) (tables 𝓤 H 𝓜 𝓡 code.env .Λ) #koxaltes·koxaltes-member-utilization code.function (code.unfolded 𝓤 H 𝓜 𝓡)
     (meets 𝓤 H (𝓖 .A) (givenOf 𝓤 H 𝓜 𝓖) (𝓜 .mem) (𝓡 .run) (tablesOf 𝓤 H 𝓜 (tables 𝓤 H 𝓜 𝓡 code.env))
-    (cited 𝓤 H (FirstCount 𝓤 H (𝓖 .A) (givenOf 𝓤 H 𝓜 𝓖) (𝓜 .mem) (𝓡 .run)) 𝓜 𝓡 code.env #lent·first-count first-def.routine code.calls-lent·first-count (first-thm.met 𝓤 H 𝓜 𝓖 𝓡))
-    (cited 𝓤 H (SecondCount 𝓤 H (𝓖 .A) (givenOf 𝓤 H 𝓜 𝓖) (𝓜 .mem) (𝓡 .run)) 𝓜 𝓡 code.env #lent·second-count second-def.routine code.calls-lent·second-count (second-thm.met 𝓤 H 𝓜 𝓖 𝓡))
-    (cited 𝓤 H (Copied 𝓤 H (𝓖 .A) (givenOf 𝓤 H 𝓜 𝓖) (𝓜 .mem) (𝓡 .run)) 𝓜 𝓡 code.env #lists·first-groups copied-def.routine code.calls-lists·first-groups (copied-thm.met 𝓤 H 𝓜 𝓖 𝓡))
-    (cited 𝓤 H (Inner 𝓤 H (𝓖 .A) (𝓜 .mem) (𝓡 .run)) 𝓜 𝓡 code.env #koxaltes·tell-member-utilization inner-def.routine code.calls-koxaltes·tell-member-utilization (inner-thm.met 𝓤 H 𝓜 𝓖 𝓡)))
+    (cited 𝓤 H (FirstCount 𝓤 H (𝓖 .A) (givenOf 𝓤 H 𝓜 𝓖) (𝓜 .mem) (𝓡 .run)) 𝓜 𝓡 code.env #lent-member·first-count first-def.routine code.calls-lent-member·first-count (first-thm.met 𝓤 H 𝓜 𝓖 𝓡))
+    (cited 𝓤 H (SecondCount 𝓤 H (𝓖 .A) (givenOf 𝓤 H 𝓜 𝓖) (𝓜 .mem) (𝓡 .run)) 𝓜 𝓡 code.env #lent-member·second-count second-def.routine code.calls-lent-member·second-count (second-thm.met 𝓤 H 𝓜 𝓖 𝓡))
+    (cited 𝓤 H (Copied 𝓤 H (𝓖 .A) (givenOf 𝓤 H 𝓜 𝓖) (𝓜 .mem) (𝓡 .run)) 𝓜 𝓡 code.env #lent-groups·first-groups copied-def.routine code.calls-lent-groups·first-groups (copied-thm.met 𝓤 H 𝓜 𝓖 𝓡))
+    (cited 𝓤 H (Inner 𝓤 H (𝓖 .A) (𝓜 .mem) (𝓡 .run)) 𝓜 𝓡 code.env #koxaltes·utilization-answer inner-def.routine code.calls-koxaltes·utilization-answer (inner-thm.met 𝓤 H 𝓜 𝓖 𝓡)))

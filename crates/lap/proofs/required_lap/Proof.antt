@@ -14,14 +14,14 @@ lap c = rw (c .tension-lap .ensures) (tension-most (meshOf (c .before .args .x))
 mul-larger : tie.Need-mul-larger
 mul-larger c = omega (arith, lap (c .before))
 
-mul-chosen : tie.Need-mul-chosen
-mul-chosen c = omega (arith, lap (c .before .before))
+mul-select : tie.Need-mul-select
+mul-select c = omega (arith, lap (c .before .before))
 
 returns : tie.Need-returns
 unfolding requiredLap
-returns c = rw (c .chosen .ensures, c .before .larger .ensures, c .before .before .before .tension-lap .ensures)
+returns c = rw (c .select .ensures, c .before .larger .ensures, c .before .before .before .tension-lap .ensures)
 
 pub required-lap-spec : {M : Type 1} → statement M
 required-lap-spec =
     tie.close
-    (tie.spec (λ c κs. search needs) mul-larger (λ c κs. search needs) mul-chosen (λ c κs. search needs) returns)
+    (tie.spec (λ c κs. search needs) mul-larger (λ c κs. search needs) mul-select (λ c κs. search needs) returns)

@@ -9,15 +9,15 @@ use borrow.Author.Needs.{needs}
 use Rattle.lap.proofs.tension_lap.Statement.{statement}
 use Rattle.lap.proofs.tension_lap.Tie as tie
 
-sizes : (c : tie.After-chosen2) →
-    (c .before .before .before .before .chosen .result ≤ 300) × (c .before .before .basic-length .result ≤ basicMost) × (c .chosen2 .result ≤ 80)
+sizes : (c : tie.After-select2) →
+    (c .before .before .before .before .select .result ≤ 300) × (c .before .before .basic-length .result ≤ basicMost) × (c .select2 .result ≤ 80)
 sizes c =
     let k = c .before .before in
     let s = k .before .before .before .before in
     let p = parts (meshOf (s .args .x)) (s .pre) in (
-      rw (k .before .before .chosen .ensures) (p .least),
+      rw (k .before .before .select .ensures) (p .least),
       rw (k .basic-length .ensures, k .before .lap-row .ensures) (p .basic),
-      rw (c .chosen2 .ensures, c .before .in-millimetres .ensures) (p .thick),
+      rw (c .select2 .ensures, c .before .in-millimetres .ensures) (p .thick),
     )
 
 basic-length-requires : tie.Need-basic-length-requires
@@ -39,7 +39,7 @@ returns : tie.Need-returns
 unfolding tensionLap
 returns c =
     let k = c .before .before .before in
-    rw (c .larger .ensures, c .before .chosen2 .ensures, c .before .before .in-millimetres .ensures, k .basic-length .ensures, k .before .lap-row .ensures, k .before .before .chosen .ensures)
+    rw (c .larger .ensures, c .before .select2 .ensures, c .before .before .in-millimetres .ensures, k .basic-length .ensures, k .before .lap-row .ensures, k .before .before .select .ensures)
 
 pub tension-lap-spec : {M : Type 1} → statement M
 tension-lap-spec =

@@ -6,7 +6,7 @@ use Rattle.reinforcement.proofs.beam_bars.Tie as tie
 
 returns : tie.Need-returns
 unfolding beamBars
-returns c = rw (c .both .ensures, c .before .bar-count2 .ensures, c .before .before .bar-count .ensures)
+returns c = rw (c .and .ensures, c .before .bar-count2 .ensures, c .before .before .bar-count .ensures)
 
 pub beam-bars-spec : {M : Type 1} → statement M
 beam-bars-spec = tie.close (tie.spec (λ c κs. search needs) (λ c κs. search needs) (λ c κs. search needs) returns)

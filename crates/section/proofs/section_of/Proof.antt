@@ -15,14 +15,20 @@ use Rattle.material.proofs.steel_of.Reads as steel-of-reads
 
 returns : tie.Need-returns
 returns c =
-    made (c .before .before .before .before .before .before .before .before .before .before .before .before .before .before .before .before .before .before .args .x) _ _ _ _ _ _ _ _
-    (c .before .before .before .before .before .before .before .effective-depth .ensures) (c .before .before .before .before .before .flange-area .ensures) (c .before .before .before .before .before .before .before .before .totals-of .ensures)
-    (c .before .before .before .before .steel-area .ensures) (c .before .before .before .link-area .ensures) (c .before .before .concrete-of .ensures) (c .before .steel-of .ensures) (c .fyv-of .ensures)
+    let k = c .before .before .before .before .before in
+    let b = k .before .before in
+    let t = b .before .before in
+    rw (b .in-millimetres .ensures, k .before .in-millimetres2 .ensures)
+    (made (t .before .before .before .before .before .before .before .before .before .before .args .x) _ _ _ _ _ _ _ _
+    (b .before .effective-depth .ensures) (k .flange-area .ensures) (t .totals-of .ensures)
+    (c .before .before .before .before .steel-area .ensures) (c .before .before .before .link-area .ensures) (c .before .before .concrete-of .ensures) (c .before .steel-of .ensures) (c .fyv-of .ensures))
 
 pub section-of-spec : {M : Type 1} → statement M
 section-of-spec =
     tie.close
     (tie.spec
+    (λ c κs. search needs)
+    (λ c κs. search needs)
     (λ c κs. search needs)
     (λ c κs. search needs)
     (λ c κs. search needs)

@@ -3,7 +3,7 @@ use Prim.Native.Nat.{_-_, _≤_}
 use mathlib.Core.Path.{_≡_, refl}
 use lib.ListN.{take}
 use borrow.Author.Needs.{needs}
-use Rattle.lists.specs.Lists.{groupsHold}
+use Rattle.lent_groups.specs.LentGroups.{groupsHold}
 use Rattle.totals.proofs.Totals.{hold-more}
 use Rattle.totals.proofs.groups_hold.Statement.{statement}
 use Rattle.totals.proofs.groups_hold.Tie as tie
@@ -20,7 +20,7 @@ loop-holds c = (search needs, refl)
 loop-again : tie.Need-loop-again Inv-loop μ-loop
 loop-again c =
     let a = c .before .before .before .before in
-    (search needs, rw (c .both .ensures, a .loop .inv .1, c .before .group-holds .ensures) (hold-more (a .before .args .t1) (a .loop .i) (search needs)))
+    (search needs, rw (c .and .ensures, a .loop .inv .1, c .before .group-holds .ensures) (hold-more (a .before .args .t1) (a .loop .i) (search needs)))
 
 returns : tie.Need-returns Inv-loop μ-loop
 returns c =

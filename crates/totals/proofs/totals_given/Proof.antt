@@ -1,6 +1,6 @@
 -- `totals::totals_given` meets its contract.
 use lib.ListN.{take}
-use Rattle.lists.proofs.Named.{held-accepted}
+use Rattle.lent_groups.proofs.Named.{held-accepted}
 use Rattle.totals.proofs.totals_given.Statement.{statement}
 use Rattle.totals.proofs.totals_given.Tie as tie
 

@@ -9,7 +9,7 @@ over-limit-requires : tie.Need-over-limit-requires
 over-limit-requires c κs = (search needs, rw (c .width-limit .ensures) (width-limit-small _))
 
 over-limit-requires-2 : tie.Need-over-limit-requires-2
-over-limit-requires-2 c κs = (search needs, rw (c .deflection-limit .ensures) (deflection-limit-small _ (c .before .before .before .before .before .pre .0)))
+over-limit-requires-2 c κs = (search needs, rw (c .deflection-limit .ensures) (deflection-limit-small _ (c .before .before .before .before .before .before .pre .0)))
 
 returns : tie.Need-returns
 unfolding beamUtilization
@@ -20,12 +20,13 @@ returns c =
     let k = w .before in
     let v = k .before in
     let m = v .before in
-    rw (c .together .ensures, l .over-limit2 .ensures, d .deflection-limit .ensures, w .over-limit .ensures, k .width-limit .ensures, v .over-figure2 .ensures, m .over-figure .ensures)
+    rw (c .together .ensures, l .over-limit2 .ensures, d .deflection-limit .ensures, w .over-limit .ensures, k .width-limit .ensures, v .over-figure2 .ensures, m .in-newtons .ensures, m .before .over-figure .ensures)
 
 pub beam-utilization-spec : {M : Type 1} → statement M
 beam-utilization-spec =
     tie.close
     (tie.spec
+    (λ c κs. search needs)
     (λ c κs. search needs)
     (λ c κs. search needs)
     (λ c κs. search needs)

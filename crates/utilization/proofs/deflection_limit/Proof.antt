@@ -10,8 +10,9 @@ div-down-requires c κs = rw (c .span-divisor .ensures) (divisor-between _ _ .0)
 
 returns : tie.Need-returns
 unfolding deflectionLimit
-returns c = rw (c .div-down .ensures, c .before .span-divisor .ensures)
+returns c = rw (c .div-down .ensures, c .before .span-divisor .ensures, c .before .before .in-millimetres .ensures)
 
 pub deflection-limit-spec : {M : Type 1} → statement M
 deflection-limit-spec =
-    tie.close (tie.spec (λ c. search needs) (λ c κs. search needs) div-down-requires returns)
+    tie.close
+    (tie.spec (λ c κs. search needs) (λ c. search needs) (λ c κs. search needs) div-down-requires returns)

@@ -8,49 +8,44 @@ use Rattle.utilization.proofs.member_utilization.Tie as tie
 section-of-requires : tie.Need-section-of-requires
 section-of-requires c κs =
     let t = c .before in
-    let k = t .before .before in
-    rw (c .beam-of .ensures) (as-beam _ _ _ (k .kind-of .ensures) (t .enum-told .given .1) (k .before .pre .0))
+    rw (c .beam-of .ensures) (as-beam _ _ (t .enum-told .given .1) (t .before .before .pre .0))
 
 beam-utilization-requires : tie.Need-beam-utilization-requires
 beam-utilization-requires c κs =
     let b = c .before in
     let t = b .before in
-    let k = t .before .before in
-    (beam-bounded (c .section-of .ensures) (rw (b .beam-of .ensures) (as-beam _ _ _ (k .kind-of .ensures) (t .enum-told .given .1) (k .before .pre .0))), k .before .pre .1)
+    (beam-bounded (c .section-of .ensures) (rw (b .beam-of .ensures) (as-beam _ _ (t .enum-told .given .1) (t .before .before .pre .0))), t .before .before .pre .1)
 
 column-utilization-requires : tie.Need-column-utilization-requires
 column-utilization-requires c κs =
     let t = c .before in
-    let k = t .before .before in
-    (rw (c .column-of .ensures) (as-column _ _ _ (k .kind-of .ensures) (t .enum-told2 .given .1) (k .before .pre .0)), k .before .pre .1)
+    (rw (c .column-of .ensures) (as-column _ _ (t .enum-told2 .given .1) (t .before .before .pre .0)), t .before .before .pre .1)
 
 mesh-utilization-requires : tie.Need-mesh-utilization-requires
 mesh-utilization-requires c κs =
     let t = c .before in
-    let k = t .before .before in
-    (rw (c .mesh-of .ensures) (as-mesh _ _ _ (k .kind-of .ensures) (t .enum-told3 .given .1) (k .before .pre .0)), k .before .pre .1)
+    (rw (c .mesh-of .ensures) (as-mesh _ _ (t .enum-told3 .given .1) (t .before .before .pre .0)), t .before .before .pre .1)
 
 returns : tie.Need-returns
 returns c =
     let s = c .before in
     let t = s .before .before in
-    of-beam _ _ _ _ (t .before .before .kind-of .ensures) (t .enum-told .given .1) (s .before .beam-of .ensures) (s .section-of .ensures) (c .beam-utilization .ensures)
+    of-beam _ _ _ (t .enum-told .given .1) (s .before .beam-of .ensures) (s .section-of .ensures) (c .beam-utilization .ensures)
 
 returns-2 : tie.Need-returns-2
 returns-2 c =
     let t = c .before .before in
-    of-column _ _ _ _ (t .before .before .kind-of .ensures) (t .enum-told2 .given .1) (c .before .column-of .ensures) (c .column-utilization .ensures)
+    of-column _ _ _ (t .enum-told2 .given .1) (c .before .column-of .ensures) (c .column-utilization .ensures)
 
 returns-3 : tie.Need-returns-3
 returns-3 c =
     let t = c .before .before in
-    of-mesh _ _ _ _ (t .before .before .kind-of .ensures) (t .enum-told3 .given .1) (c .before .mesh-of .ensures) (c .mesh-utilization .ensures)
+    of-mesh _ _ _ (t .enum-told3 .given .1) (c .before .mesh-of .ensures) (c .mesh-utilization .ensures)
 
 pub member-utilization-spec : {M : Type 1} → statement M
 member-utilization-spec =
     tie.close
     (tie.spec
-    (λ c κs. search needs)
     (λ c. search needs)
     (λ c κs. search needs)
     section-of-requires

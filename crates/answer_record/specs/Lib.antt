@@ -1,0 +1,2 @@
+pub mod AnswerRecord
+pub mod UtilizationRecord

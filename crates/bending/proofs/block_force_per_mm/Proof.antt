@@ -1,0 +1,16 @@
+-- `bending::block_force_per_mm` meets its contract.
+use native.Mathlib.Omega.{arith}
+use borrow.Author.Needs.{needs}
+use Rattle.bending.proofs.Bounds.{sizes}
+use Rattle.bending.proofs.block_force_per_mm.Statement.{statement}
+use Rattle.bending.proofs.block_force_per_mm.Tie as tie
+
+mul-result : tie.Need-mul-result
+mul-result c = rw (c .before .in-tenths .ensures, c .in-millimetres .ensures) (omega (arith, sizes (c .before .before .pre)))
+
+returns : tie.Need-returns
+returns c = rw (c .before .in-tenths .ensures, c .in-millimetres .ensures)
+
+pub block-force-per-mm-spec : {M : Type 1} → statement M
+block-force-per-mm-spec =
+    tie.close (tie.spec (λ c κs. search needs) (λ c κs. search needs) mul-result returns)

@@ -1,0 +1,181 @@
+-- The three members of document 01's printed schedule: by their fields, as a caller builds them, and as a schedule's bytes; and three whose fields are numbered, to show which stands where.
+use Prim.Native.Nat.{ℕ, _-_}
+use mathlib.Core.List.{List, [], _∷_, _++_}
+use lib.ListN.{length, replicate}
+use Rattle.bars.specs.declared.Group.{Group}
+use Rattle.member.specs.Member.{Member, beam, column, mesh}
+use Rattle.lent_member.specs.declared.Lent.{Lent}
+
+-- one group: n bars of the diameter d
+abbrev pub bars : ℕ → ℕ → List Group
+bars n d = record { diameter = d; bars = n } ∷ []
+
+-- ---- By their fields.
+
+-- beam 1 with its compression steel and a', the spacing of its links and V
+abbrev pub beamWith : List Group → ℕ → ℕ → ℕ → Member
+beamWith compression a′ spacing shear =
+    beam 1 (record {
+      b = 250;
+      h = 500;
+      bf = 250;
+      hf = 0;
+      aₛ = 40;
+      a′ = a′;
+      concrete = 30;
+      steel = 1;
+      tension = bars 4 20;
+      compression = compression;
+      link = 8;
+      legs = 2;
+      s = spacing;
+      linkSteel = 1;
+      c = 30;
+      l₀ = 6000;
+      M = 150000;
+      Mq = 90000;
+      Vd = shear;
+      environment = 1;
+      strict = 0;
+    })
+
+abbrev pub beam₁ : ℕ → ℕ → Member
+beam₁ spacing shear = beamWith [] 0 spacing shear
+
+-- column 2 with its length l0 and N
+abbrev pub column₂ : ℕ → ℕ → Member
+column₂ span force =
+    column 2 (record {
+      b = 400;
+      h = 400;
+      concrete = 30;
+      steel = 1;
+      groups = bars 8 20;
+      link = 8;
+      s = 250;
+      l₀ = span;
+      N = force;
+    })
+
+-- mesh 3 with its anchorage and its lap
+abbrev pub mesh₃ : ℕ → ℕ → Member
+mesh₃ anchorage lap =
+    mesh 3 (record {
+      family = 1;
+      concrete = 30;
+      d = 10;
+      cross = 1;
+      paired = 0;
+      apart = 0;
+      seismic = 3;
+      lapping = 1;
+      compression = 0;
+      anchorage = anchorage;
+      lap = lap;
+    })
+
+-- ---- As a caller builds them: mark, kind and fields, of which there are 24; the groups are lent beside them.
+
+abbrev pub built : ℕ → ℕ → List ℕ → Lent
+built mark kind v = record { mark = mark; kind = kind; fields = record { v = v ++ replicate (24 - length v) 0 } }
+
+-- with the count of its tension groups
+abbrev pub builtBeam : ℕ → Lent
+builtBeam count =
+    built 1 1 (250 ∷ 500 ∷ 250 ∷ 0 ∷ 40 ∷ 0 ∷ 30 ∷ 1 ∷ count ∷ 0 ∷ 8 ∷ 2 ∷ 200 ∷ 1 ∷ 30 ∷ 6000 ∷ 150000 ∷ 90000 ∷ 120000 ∷ 1 ∷ 0 ∷ [])
+
+abbrev pub builtColumn : Lent
+builtColumn = built 2 2 (400 ∷ 400 ∷ 30 ∷ 1 ∷ 1 ∷ 8 ∷ 250 ∷ 4000 ∷ 2500000 ∷ [])
+
+abbrev pub builtMesh : ℕ → ℕ → Lent
+builtMesh anchorage lap = built 3 3 (1 ∷ 30 ∷ 10 ∷ 1 ∷ 0 ∷ 0 ∷ 3 ∷ 1 ∷ 0 ∷ anchorage ∷ lap ∷ [])
+
+-- ---- With another number in each place: which field stands where. The numbers mean nothing.
+
+abbrev pub placedBeam : Lent
+placedBeam =
+    built 9 1 (
+    100 ∷ 101 ∷ 102 ∷ 103 ∷ 104 ∷ 105 ∷ 106 ∷ 107 ∷ 1 ∷ 2
+    ∷ 110 ∷ 111 ∷ 112 ∷ 113 ∷ 114 ∷ 115 ∷ 116 ∷ 117 ∷ 118 ∷ 119 ∷ 120 ∷ []
+    )
+
+abbrev pub beamPlaced : List Group → List Group → Member
+beamPlaced tension compression =
+    beam 9 (record {
+      b = 100;
+      h = 101;
+      bf = 102;
+      hf = 103;
+      aₛ = 104;
+      a′ = 105;
+      concrete = 106;
+      steel = 107;
+      tension = tension;
+      compression = compression;
+      link = 110;
+      legs = 111;
+      s = 112;
+      linkSteel = 113;
+      c = 114;
+      l₀ = 115;
+      M = 116;
+      Mq = 117;
+      Vd = 118;
+      environment = 119;
+      strict = 120;
+    })
+
+abbrev pub placedColumn : Lent
+placedColumn = built 9 2 (100 ∷ 101 ∷ 102 ∷ 103 ∷ 2 ∷ 105 ∷ 106 ∷ 107 ∷ 108 ∷ [])
+
+abbrev pub columnPlaced : List Group → Member
+columnPlaced groups =
+    column 9 (record {
+      b = 100;
+      h = 101;
+      concrete = 102;
+      steel = 103;
+      groups = groups;
+      link = 105;
+      s = 106;
+      l₀ = 107;
+      N = 108;
+    })
+
+abbrev pub placedMesh : Lent
+placedMesh = built 9 3 (100 ∷ 101 ∷ 102 ∷ 103 ∷ 104 ∷ 105 ∷ 106 ∷ 107 ∷ 108 ∷ 109 ∷ 110 ∷ [])
+
+abbrev pub meshPlaced : Member
+meshPlaced =
+    mesh 9 (record {
+      family = 100;
+      concrete = 101;
+      d = 102;
+      cross = 103;
+      paired = 104;
+      apart = 105;
+      seismic = 106;
+      lapping = 107;
+      compression = 108;
+      anchorage = 109;
+      lap = 110;
+    })
+
+-- ---- As a schedule's bytes.
+
+abbrev pub beamBytes : List ℕ
+beamBytes =
+    1 ∷ 1 ∷ 250 ∷ 1 ∷ 244 ∷ 3 ∷ 250 ∷ 1 ∷ 0 ∷ 40 ∷ 0 ∷ 30 ∷ 1 ∷ 1 ∷ 20 ∷ 4 ∷ 0 ∷ 8 ∷ 2 ∷ 200 ∷ 1 ∷ 1
+    ∷ 30 ∷ 240 ∷ 46 ∷ 240 ∷ 147 ∷ 9 ∷ 144 ∷ 191 ∷ 5 ∷ 192 ∷ 169 ∷ 7 ∷ 1 ∷ 0 ∷ []
+
+-- with its steel's code
+abbrev pub columnBytes : ℕ → List ℕ
+columnBytes steel = 2 ∷ 2 ∷ 144 ∷ 3 ∷ 144 ∷ 3 ∷ 30 ∷ steel ∷ 1 ∷ 20 ∷ 8 ∷ 8 ∷ 250 ∷ 1 ∷ 160 ∷ 31 ∷ 160 ∷ 203 ∷ 152 ∷ 1 ∷ []
+
+-- with its mark
+abbrev pub meshBytes : ℕ → List ℕ
+meshBytes mark = mark ∷ 3 ∷ 1 ∷ 30 ∷ 10 ∷ 1 ∷ 0 ∷ 0 ∷ 3 ∷ 1 ∷ 0 ∷ 142 ∷ 2 ∷ 222 ∷ 2 ∷ []
+
+-- the printed schedule with the steel of its column, of code 1
+abbrev pub scheduleBytes : ℕ → List ℕ
+scheduleBytes steel = 3 ∷ (beamBytes ++ (columnBytes steel ++ meshBytes 3))

@@ -1,2 +1,0 @@
-pub mod Between
-pub mod Asked

@@ -1,0 +1,90 @@
+-- The fields of a member by name: slot i holds field i of its kind's table (crate `field_table`).
+use Prim.Native.Nat.{ℕ, _+_}
+use mathlib.Core.List.{List, [], _∷_}
+use lib.ListN.{getD, take}
+use Rattle.bars.specs.declared.Group.{Group}
+use Rattle.field_table.specs.declared.MemberKind.{MemberKind}
+use Rattle.field_table.specs.declared.MemberKind.the-variants as kinds
+use Rattle.field_table.specs.Fields.{tensionCount, compressionCount, beamLinks, columnCount, columnLinks}
+use Rattle.member.specs.Member.{Beam, Column, Mesh, Member, beam, column, mesh}
+
+abbrev pub slot : List ℕ → ℕ → ℕ
+slot v i = getD v i 0
+
+-- the group whose diameter stands in slot i
+abbrev pub group : List ℕ → ℕ → Group
+group v i = record { diameter = slot v i; bars = slot v (i + 1) }
+
+-- the groups of the list whose count stands in slot k: nothing past the count is read
+abbrev pub groupsAt : List ℕ → ℕ → List Group
+groupsAt v k = take (slot v k) (group v (k + 1) ∷ group v (k + 3) ∷ group v (k + 5) ∷ group v (k + 7) ∷ [])
+
+-- A beam of these groups, whose other fields stand in slots: those before the groups from slot 0 on, those after them from slot i on.
+abbrev pub beamFrom : List ℕ → ℕ → List Group → List Group → Beam
+beamFrom v i tension compression =
+    record {
+      b = slot v 0;
+      h = slot v 1;
+      bf = slot v 2;
+      hf = slot v 3;
+      aₛ = slot v 4;
+      a′ = slot v 5;
+      concrete = slot v 6;
+      steel = slot v 7;
+      tension = tension;
+      compression = compression;
+      link = slot v i;
+      legs = slot v (i + 1);
+      s = slot v (i + 2);
+      linkSteel = slot v (i + 3);
+      c = slot v (i + 4);
+      l₀ = slot v (i + 5);
+      M = slot v (i + 6);
+      Mq = slot v (i + 7);
+      Vd = slot v (i + 8);
+      environment = slot v (i + 9);
+      strict = slot v (i + 10);
+    }
+
+-- The same of a column.
+abbrev pub columnFrom : List ℕ → ℕ → List Group → Column
+columnFrom v i groups =
+    record {
+      b = slot v 0;
+      h = slot v 1;
+      concrete = slot v 2;
+      steel = slot v 3;
+      groups = groups;
+      link = slot v i;
+      s = slot v (i + 1);
+      l₀ = slot v (i + 2);
+      N = slot v (i + 3);
+    }
+
+unfoldable pub beamAt : List ℕ → Beam
+beamAt v = beamFrom v beamLinks (groupsAt v tensionCount) (groupsAt v compressionCount)
+
+unfoldable pub columnAt : List ℕ → Column
+columnAt v = columnFrom v columnLinks (groupsAt v columnCount)
+
+unfoldable pub meshAt : List ℕ → Mesh
+meshAt v =
+    record {
+      family = slot v 0;
+      concrete = slot v 1;
+      d = slot v 2;
+      cross = slot v 3;
+      paired = slot v 4;
+      apart = slot v 5;
+      seismic = slot v 6;
+      lapping = slot v 7;
+      compression = slot v 8;
+      anchorage = slot v 9;
+      lap = slot v 10;
+    }
+
+-- The member with this mark, this kind and these slots.
+unfoldable pub memberAt : ℕ → MemberKind → List ℕ → Member
+memberAt mark kinds.Beam v = beam mark (beamAt v)
+memberAt mark kinds.Column v = column mark (columnAt v)
+memberAt mark kinds.Mesh v = mesh mark (meshAt v)

@@ -1,0 +1,20 @@
+-- `field_table::kind_of` meets its contract.
+use borrow.Author.Tests.{ne-eqb}
+use Rattle.field_table.specs.Fields.{kindOf}
+use Rattle.field_table.proofs.kind_of.Statement.{statement}
+use Rattle.field_table.proofs.kind_of.Tie as tie
+
+returns : tie.Need-returns
+unfolding kindOf
+returns c = rw (c .match .keys1)
+
+returns-2 : tie.Need-returns-2
+unfolding kindOf
+returns-2 c = rw (c .match .keys2)
+
+returns-3 : tie.Need-returns-3
+unfolding kindOf
+returns-3 c = rw (ne-eqb _ 1 (c .match .rest .0 .1), ne-eqb _ 2 (c .match .rest .1))
+
+pub kind-of-spec : {M : Type 1} → statement M
+kind-of-spec = tie.close (tie.spec returns returns-2 returns-3)

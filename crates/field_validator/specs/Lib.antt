@@ -1,0 +1,4 @@
+pub mod Placed
+pub mod FieldsAt
+pub mod Taken
+pub mod FieldsResult

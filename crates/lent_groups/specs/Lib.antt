@@ -1,0 +1,2 @@
+pub mod LentGroups
+pub mod CopiedGroups

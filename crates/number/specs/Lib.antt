@@ -1,2 +1,0 @@
-pub mod Number
-pub mod Encoding

@@ -1,4 +1,0 @@
-pub mod Placed
-pub mod Fields
-pub mod Taken
-pub mod Result

@@ -1,0 +1,3 @@
+pub mod Septets
+pub mod Encoded
+pub mod Examples

@@ -1,0 +1,126 @@
+// Questions 8 to 10 of a member in slots, and the questions put to a single built member.
+ghost use mathlib.Core.Path.{_≡_};
+ghost use mathlib.Core.Bool.{true};
+ghost use Rattle.field_table.specs.Fields.{beamFields, columnFields, fieldsOf};
+ghost use Rattle.field_check.specs.FieldCheck.{fieldsHold};
+ghost use Rattle.field_layout.specs.Layout.{beamAt, columnAt, meshAt};
+ghost use Rattle.verdict.specs.Verdict.{beamVerdict, columnVerdict, meshVerdict, memberVerdict, markInRange, fieldsVerdict, builtVerdict};
+use consistency::beam_consistent;
+use consistency::column_consistent;
+use consistency::mesh_consistent;
+use field_check::Slots;
+use field_check::fields_hold;
+use field_domain::in_range;
+use field_layout::beam_of;
+use field_layout::column_of;
+use field_layout::mesh_of;
+use field_table::MemberKind;
+use field_table::is_known;
+use field_table::kind_of;
+use question::Question;
+use question::Verdict;
+use reinforcement::beam_bars;
+use reinforcement::beam_ratio;
+use reinforcement::column_bars;
+
+// A member that a caller builds.
+pub struct Built {
+    pub mark: u32,
+    pub kind: u32,
+    pub fields: Slots,
+}
+
+// 8 to 10 of a beam whose fields passed question 7.
+fn beam_verdict(v: &[u32; 40]) -> Verdict
+    requires { ⌜ fieldsHold beamFields 0 (now v) ≡ true ⌝ }
+    ensures { λ r. ⌜ r ≡ beamVerdict (beamAt (now (v .entry))) ⌝ }
+{
+    let x = beam_of(v);
+    if beam_consistent(x) {
+        if beam_bars(x) {
+            if beam_ratio(x) {
+                Verdict::Accepted
+            } else {
+                Verdict::Refused(Question::Ratio)
+            }
+        } else {
+            Verdict::Refused(Question::Bars)
+        }
+    } else {
+        Verdict::Refused(Question::Consistency)
+    }
+}
+
+// 8 and 9 of a column whose fields passed question 7.
+fn column_verdict(v: &[u32; 40]) -> Verdict
+    requires { ⌜ fieldsHold columnFields 0 (now v) ≡ true ⌝ }
+    ensures { λ r. ⌜ r ≡ columnVerdict (columnAt (now (v .entry))) ⌝ }
+{
+    let x = column_of(v);
+    if column_consistent(x) {
+        if column_bars(x) {
+            Verdict::Accepted
+        } else {
+            Verdict::Refused(Question::Bars)
+        }
+    } else {
+        Verdict::Refused(Question::Consistency)
+    }
+}
+
+// 8 of a mesh.
+fn mesh_verdict(v: &[u32; 40]) -> Verdict
+    ensures { λ r. ⌜ r ≡ meshVerdict (meshAt (now (v .entry))) ⌝ }
+{
+    if mesh_consistent(mesh_of(v)) {
+        Verdict::Accepted
+    } else {
+        Verdict::Refused(Question::Consistency)
+    }
+}
+
+// 8 to 10 of a member whose fields passed question 7.
+pub fn member_verdict(kind: MemberKind, v: &[u32; 40]) -> Verdict
+    requires { ⌜ fieldsHold (fieldsOf kind) 0 (now v) ≡ true ⌝ }
+    ensures { λ r. ⌜ r ≡ memberVerdict kind (now (v .entry)) ⌝ }
+{
+    match kind {
+        MemberKind::Beam => beam_verdict(v),
+        MemberKind::Column => column_verdict(v),
+        MemberKind::Mesh => mesh_verdict(v),
+    }
+}
+
+// 5: a mark in range.
+pub fn mark_in_range(mark: u32) -> bool
+    ensures { λ r. ⌜ r ≡ markInRange mark ⌝ }
+{
+    in_range(1, 999999, mark)
+}
+
+// 7 to 10 of a member of this kind.
+fn fields_verdict(kind: MemberKind, v: &[u32; 40]) -> Verdict
+    ensures { λ r. ⌜ r ≡ fieldsVerdict kind (now (v .entry)) ⌝ }
+{
+    if fields_hold(kind, v) {
+        member_verdict(kind, v)
+    } else {
+        Verdict::Refused(Question::Field)
+    }
+}
+
+// The questions put to a single built member.
+pub fn built_verdict(x: Built) -> Verdict
+    ensures { λ r. ⌜ r ≡ builtVerdict (x .mark) (x .kind) (x .fields .v) ⌝ }
+{
+    let v = x.fields.v;
+    if mark_in_range(x.mark) {
+        if is_known(x.kind) {
+            fields_verdict(kind_of(x.kind), &v)
+        } else {
+            Verdict::Refused(Question::Kind)
+        }
+    } else {
+        Verdict::Refused(Question::Mark)
+    }
+}
