@@ -11,25 +11,7 @@ use Rattle.quantity.specs.Choice.{if_then_else_}
 use Rattle.text.specs.Text.{every}
 use Rattle.text.proofs.Bytes.{Graphic, graphic}
 use Rattle.outcome.specs.declared.Check.{Check}
-use Rattle.outcome.specs.declared.Check.the-variants.{
-  Passed,
-  LeastSteel,
-  CompressionDepth,
-  Bending,
-  CoupleBending,
-  Shear,
-  LinkSpacing,
-  LeastLinks,
-  ServiceStress,
-  CrackWidth,
-  Deflection,
-  MostSteel,
-  ColumnLinks,
-  Slenderness,
-  AxialForce,
-  Anchorage,
-  Lap,
-}
+use Rattle.outcome.specs.declared.Check.the-variants as variants
 use Rattle.outcome.specs.Outcome.{nameOf}
 
 same : List ℕ → List ℕ → Bool
@@ -40,50 +22,50 @@ same (a ∷ s) (b ∷ t) = eqb a b && same s t
 
 -- the first of some checks that has the name w
 find : List ℕ → List Check → Check
-find w [] = Passed
+find w [] = variants.Passed
 find w (c ∷ cs) = if same w (nameOf c) then c else find w cs
 
 checks : List Check
 checks =
-    Passed
-    ∷ LeastSteel
-    ∷ CompressionDepth
-    ∷ Bending
-    ∷ CoupleBending
-    ∷ Shear
-    ∷ LinkSpacing
-    ∷ LeastLinks
-    ∷ ServiceStress
-    ∷ CrackWidth
-    ∷ Deflection
-    ∷ MostSteel
-    ∷ ColumnLinks
-    ∷ Slenderness
-    ∷ AxialForce
-    ∷ Anchorage
-    ∷ Lap
+    variants.Passed
+    ∷ variants.LeastSteel
+    ∷ variants.CompressionDepth
+    ∷ variants.Bending
+    ∷ variants.CoupleBending
+    ∷ variants.Shear
+    ∷ variants.LinkSpacing
+    ∷ variants.LeastLinks
+    ∷ variants.ServiceStress
+    ∷ variants.CrackWidth
+    ∷ variants.Deflection
+    ∷ variants.MostSteel
+    ∷ variants.ColumnLinks
+    ∷ variants.Slenderness
+    ∷ variants.AxialForce
+    ∷ variants.Anchorage
+    ∷ variants.Lap
     ∷ []
 
 -- by computing: the name is read back as c, its bytes lie above the blank, there are at most seven
 facts : (c : Check) → (find (nameOf c) checks ≡ c) × (every (ltb 32) (nameOf c) ≡ true) × (leb (length (nameOf c)) 7 ≡ true)
 unfolding find same checks every
-facts Passed = (refl, refl, refl)
-facts LeastSteel = (refl, refl, refl)
-facts CompressionDepth = (refl, refl, refl)
-facts Bending = (refl, refl, refl)
-facts CoupleBending = (refl, refl, refl)
-facts Shear = (refl, refl, refl)
-facts LinkSpacing = (refl, refl, refl)
-facts LeastLinks = (refl, refl, refl)
-facts ServiceStress = (refl, refl, refl)
-facts CrackWidth = (refl, refl, refl)
-facts Deflection = (refl, refl, refl)
-facts MostSteel = (refl, refl, refl)
-facts ColumnLinks = (refl, refl, refl)
-facts Slenderness = (refl, refl, refl)
-facts AxialForce = (refl, refl, refl)
-facts Anchorage = (refl, refl, refl)
-facts Lap = (refl, refl, refl)
+facts variants.Passed = (refl, refl, refl)
+facts variants.LeastSteel = (refl, refl, refl)
+facts variants.CompressionDepth = (refl, refl, refl)
+facts variants.Bending = (refl, refl, refl)
+facts variants.CoupleBending = (refl, refl, refl)
+facts variants.Shear = (refl, refl, refl)
+facts variants.LinkSpacing = (refl, refl, refl)
+facts variants.LeastLinks = (refl, refl, refl)
+facts variants.ServiceStress = (refl, refl, refl)
+facts variants.CrackWidth = (refl, refl, refl)
+facts variants.Deflection = (refl, refl, refl)
+facts variants.MostSteel = (refl, refl, refl)
+facts variants.ColumnLinks = (refl, refl, refl)
+facts variants.Slenderness = (refl, refl, refl)
+facts variants.AxialForce = (refl, refl, refl)
+facts variants.Anchorage = (refl, refl, refl)
+facts variants.Lap = (refl, refl, refl)
 
 pub name-injective : {c d : Check} → nameOf c ≡ nameOf d → c ≡ d
 name-injective {c} {d} e = sym (facts c .0) ∙ ap (λ (w : List ℕ). find w checks) e ∙ facts d .0

@@ -78,7 +78,7 @@ unfolding _⊗_ exactWidthLimit
 width-limit-proper x = if-case (λ (a : Frac). Proper (whole 1000 ⊗ a)) (eqb (x .environment) 1) (3 // 10) (2 // 10) (λ e. omega arith) (λ e. omega arith)
 
 width-limit : (x : Section) (v : ℕ) →
-    Settles (leb v (widthLimit x)) (whole v ≼ whole 1000 ⊗ exactWidthLimit x) (whole 1000 ⊗ exactWidthLimit x ≺ whole v)
+    Settles (leb v (widthLimit (x .environment))) (whole v ≼ whole 1000 ⊗ exactWidthLimit x) (whole 1000 ⊗ exactWidthLimit x ≺ whole v)
 unfolding _⊗_ exactWidthLimit widthLimit
 width-limit x v = go (eqb (x .environment) 1)
   where
@@ -89,7 +89,7 @@ width-limit x v = go (eqb (x .environment) 1)
     go false = settles-as (λ h. omega arith) (λ h. omega arith) (compared v 200)
 
 pub width-settles : (x : Section) → Bounded x → stressHolds x ≡ true → G x ≤ 50 * S x →
-    Settles (leb (crackWidth x) (widthLimit x)) (WidthHolds x) (inThousandths (exactWidthLimit x) ⊖ inThousandths (exactWidth x) ≺ 11 // 10)
+    Settles (leb (crackWidth x) (widthLimit (x .environment))) (WidthHolds x) (inThousandths (exactWidthLimit x) ⊖ inThousandths (exactWidth x) ≺ 11 // 10)
 width-settles x a e g =
     settles-as (scale-≼ 1000 (exactWidth x) (exactWidthLimit x) (omega arith)) (λ h. h)
     (limit-settles (whole 1000 ⊗ exactWidthLimit x) (width-limit-proper x) (width-safe x a e g) (width-limit x (crackWidth x)))

@@ -40,9 +40,9 @@ unfoldable pub σ : Section → ℕ
 unfoldable pub q : Section → ℕ
 q x = meanStress (σ x) (stiffening (ftk x) (W x) (S x))
 
--- crack width, 0.001 mm, and its limit
+-- crack width, 0.001 mm, and its limit in an environment
 unfoldable pub crackWidth : Section → ℕ
 crackWidth x = widthOf (q x) (crackSpacing (c x) (E x) (W x) (D x) (S x))
 
-unfoldable pub widthLimit : Section → ℕ
-widthLimit x = if eqb (x .environment) 1 then 300 else 200
+unfoldable pub widthLimit : ℕ → ℕ
+widthLimit environment = if eqb environment 1 then 300 else 200

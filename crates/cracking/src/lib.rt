@@ -108,9 +108,9 @@ pub fn crack_width(x: Section, mean: u64) -> u64
     )
 }
 
-// Its limit.
-pub fn width_limit(x: Section) -> u64
-    ensures { λ r. ⌜ r ≡ widthLimit x ⌝ }
+// Its limit in this environment.
+pub fn width_limit(environment: u32) -> u64
+    ensures { λ r. ⌜ r ≡ widthLimit environment ⌝ }
 {
-    if x.environment == 1 { 300 } else { 200 }
+    if environment == 1 { 300 } else { 200 }
 }

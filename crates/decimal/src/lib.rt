@@ -2,7 +2,7 @@
 use text::put_first;
 ghost use mathlib.Core.Path.{_≡_};
 ghost use mathlib.Core.List.{_∷_, []};
-ghost use Prim.Native.Nat.{_+_, _/_, _%_, _<_, _≤_};
+ghost use Prim.Native.Nat.{_+_, _-_, _/_, _%_, _<_, _≤_};
 ghost use lib.ListN.{length};
 ghost use Rattle.text.specs.Text.{decimal};
 ghost use Rattle.text.specs.Put.{Put};
@@ -85,15 +85,20 @@ fn put_tight(out: &mut [u8], at: usize, v: u64) -> usize
     put_first(out, p, &digits, n)
 }
 
+// The bytes of a buffer of n from `at` on, none past its end.
+fn room(n: usize, at: usize) -> usize
+    ensures { λ r. ⌜ r ≡ n - at ⌝ }
+{
+    if at < n { n - at } else { 0 }
+}
+
 // `v` in decimal from `at` on, without leading zeros: up to eight digits are stored with one look at the room.
 pub fn put_decimal(out: &mut [u8], at: usize, v: u64) -> usize
     ensures { λ r. ⌜ Put (now (out .entry)) at (decimal v) (now (out .exit)) r ⌝ }
 {
     if v < 100000000 {
-        if at < out.len() {
-            if 8 <= out.len() - at {
-                return set_long(out, at, v);
-            }
+        if 8 <= room(out.len(), at) {
+            return set_long(out, at, v);
         }
     }
     put_tight(out, at, v)

@@ -1,7 +1,7 @@
 -- Question 7 of fields one after the other, as the code joins them.
 use Prim.Native.Nat.{ℕ, _+_}
-use mathlib.Core.Path.{_≡_, sym, _∙_}
-use mathlib.Core.Bool.{Bool, _&&_}
+use mathlib.Core.Path.{_≡_, refl, sym, _∙_}
+use mathlib.Core.Bool.{Bool, true, _&&_}
 use mathlib.Core.List.{List, [], _∷_, _++_}
 use native.Mathlib.Nat.{add-zero, add-assoc}
 use native.Mathlib.Omega.{arith}
@@ -20,28 +20,32 @@ holds-append (x ∷ xs) ys i v =
     let e : i + 1 + length xs ≡ i + length (x ∷ xs) = omega arith in
     rw (holds-append xs ys (i + 1) v, e) (sym (and-assoc (fieldHolds x i v) _ _))
 
--- field after field, from what those before come to
-abbrev pub joined : Bool → List Domain → ℕ → List ℕ → Bool
-joined ok [] i v = ok
-joined ok (d ∷ ds) i v = joined (ok && fieldHolds d i v) ds (i + 1) v
+-- field before field: the code begins with the last one, the definition ends in true after it
+abbrev pub joined : List Domain → ℕ → List ℕ → Bool
+joined [] i v = true
+joined (d ∷ []) i v = fieldHolds d i v
+joined (d ∷ e ∷ ds) i v = fieldHolds d i v && joined (e ∷ ds) (i + 1) v
 
-pub joined-hold : (ok : Bool) (fs : List Domain) (i : ℕ) (v : List ℕ) → joined ok fs i v ≡ (ok && fieldsHold fs i v)
-joined-hold ok [] i v = sym (and-true ok)
-joined-hold ok (d ∷ ds) i v = joined-hold (ok && fieldHolds d i v) ds (i + 1) v ∙ and-assoc ok _ _
+pub joined-hold : (fs : List Domain) (i : ℕ) (v : List ℕ) → joined fs i v ≡ fieldsHold fs i v
+joined-hold [] i v = refl
+joined-hold (d ∷ []) i v = sym (and-true (fieldHolds d i v))
+joined-hold (d ∷ e ∷ ds) i v = rw (joined-hold (e ∷ ds) (i + 1) v)
 
--- a part, and what those before it come to
-pub then-part : (xs ys : List Domain) (i : ℕ) (v : List ℕ) {s t r : Bool} → s ≡ fieldsHold xs i v → t ≡ fieldsHold ys (i + length xs) v → r ≡ (s && t)
+-- a part, and what those after it come to
+pub part-then : (xs ys : List Domain) (i : ℕ) (v : List ℕ) {s t r : Bool} → s ≡ fieldsHold xs i v → t ≡ fieldsHold ys (i + length xs) v → r ≡ (s && t)
     → r ≡ fieldsHold (xs ++ ys) i v
-then-part xs ys i v e f g = g ∙ rw (e, f) (sym (holds-append xs ys i v))
+part-then xs ys i v e f g = g ∙ rw (e, f) (sym (holds-append xs ys i v))
 
--- one field, found in its table
-pub then-field : (xs : List Domain) (i : ℕ) (v : List ℕ) {d x : Domain} {s t r : Bool} → s ≡ fieldsHold xs i v → d ≡ x → t ≡ fieldHolds d (i + length xs) v → r ≡ (s && t)
-    → r ≡ fieldsHold (xs ++ (x ∷ [])) i v
-then-field xs i v {x = x} {t = t} e is f g = then-part xs (x ∷ []) i v e (sym (and-true t) ∙ rw (f, is)) g
+-- one field, found in its table, and what those after it come to
+pub field-then : (ys : List Domain) (i : ℕ) (v : List ℕ) {d x : Domain} {s t r : Bool} → d ≡ x → s ≡ fieldHolds d i v → t ≡ fieldsHold ys (i + 1) v → r ≡ (s && t)
+    → r ≡ fieldsHold (x ∷ ys) i v
+field-then ys i v is e f g = g ∙ rw (e, f, is)
 
--- a list's groups, by the slots in which the code finds them: two fields each, two and two
+-- a list's groups, by the slots in which the code finds them
 pub groups-joined : (k i : ℕ) (v : List ℕ)
-    → (fieldHolds (GroupDiameter k 0) i v && fieldHolds (GroupBars k 0) (i + 1) v && (fieldHolds (GroupDiameter k 1) (i + 2) v && fieldHolds (GroupBars k 1) (i + 3) v)
-    && (fieldHolds (GroupDiameter k 2) (i + 4) v && fieldHolds (GroupBars k 2) (i + 5) v && (fieldHolds (GroupDiameter k 3) (i + 6) v && fieldHolds (GroupBars k 3) (i + 7) v)))
+    → (fieldHolds (GroupDiameter k 0) i v && (fieldHolds (GroupBars k 0) (i + 1) v
+    && (fieldHolds (GroupDiameter k 1) (i + 2) v && (fieldHolds (GroupBars k 1) (i + 3) v
+    && (fieldHolds (GroupDiameter k 2) (i + 4) v && (fieldHolds (GroupBars k 2) (i + 5) v
+    && (fieldHolds (GroupDiameter k 3) (i + 6) v && fieldHolds (GroupBars k 3) (i + 7) v)))))))
     ≡ fieldsHold (groups k) i v
-groups-joined k i v = simp (and-assoc, and-true, add-assoc)
+groups-joined k i v = simp (and-true, add-assoc)

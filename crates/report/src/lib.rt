@@ -46,7 +46,7 @@ pub fn member_report(x: Built, out: &mut [u8]) -> TextAnswer
     ensures { λ r. ⌜ MemberReported x (now (out .entry)) (now (out .exit)) r ⌝ }
 {
     let v = x.fields.v;
-    match built_verdict(x) {
+    match built_verdict(x.mark, x.kind, &v) {
         Verdict::Refused(q) => TextAnswer::Refused(Refusal {
             question: q,
             member: 1,

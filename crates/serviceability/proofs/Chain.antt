@@ -9,7 +9,7 @@ use Rattle.section.specs.declared.Section.{Section}
 use Rattle.cracking.specs.Steps.{crackWidth, widthLimit}
 use Rattle.serviceability.specs.Checks.{fromDeflection, fromWidth}
 
-module _ (x : Section) (m v w l : ℕ) (o : Outcome) (p : w ≡ crackWidth x) (q : l ≡ widthLimit x) where
+module _ (x : Section) (m v w l : ℕ) (o : Outcome) (p : w ≡ crackWidth x) (q : l ≡ widthLimit (x .environment)) where
   pub width-holds : w ≤ l → o ≡ fromDeflection x m v w → o ≡ fromWidth x m v
   unfolding fromWidth
   width-holds h e = rw (← p, ← q, le-leb w l h) e

@@ -18,7 +18,7 @@ fromDeflection x moment shear width =
 
 unfoldable pub fromWidth : Section → ℕ → ℕ → Outcome
 fromWidth x moment shear =
-    if leb (crackWidth x) (widthLimit x)
+    if leb (crackWidth x) (widthLimit (x .environment))
     then fromDeflection x moment shear (crackWidth x)
     else threeFigures CrackWidth moment shear (crackWidth x)
 

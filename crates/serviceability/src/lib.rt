@@ -63,7 +63,7 @@ fn from_width(x: Section, moment: u64, shear: u64) -> Outcome
     let stress = steel_stress(x);
     let mean = mean_stress(x, stress);
     let width = crack_width(x, mean);
-    if width <= width_limit(x) {
+    if width <= width_limit(x.environment) {
         from_deflection(x, moment, shear, width, stress, mean)
     } else {
         three_figures(Check::CrackWidth, moment, shear, width)

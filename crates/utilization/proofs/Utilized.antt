@@ -15,9 +15,7 @@ use Rattle.outcome.specs.declared.Outcome.{Outcome}
 use Rattle.member.specs.Member.{Member, beam, column, mesh, Beam, Column, Mesh}
 use Rattle.member.specs.Accepted.{AcceptedMember, AcceptedBeam, AcceptedColumn, AcceptedMesh}
 use Rattle.section.specs.declared.Section.{Section}
-use Rattle.section.specs.Section.{sectionOf, l₀, M, Vd}
-use Rattle.section.specs.Bounded.{Bounded}
-use Rattle.section.proofs.Bounded.{bounded}
+use Rattle.section.specs.Section.{sectionOf, l₀}
 use Rattle.cracking.specs.Steps.{widthLimit}
 use Rattle.deflection.specs.Steps.{deflection, deflectionHolds}
 use Rattle.deflection.proofs.Bounds.{divisor-between}
@@ -44,35 +42,35 @@ use Rattle.ratio.proofs.Nearest.{figure-nearest, limit-nearest, figure-decides,
 
 -- ---- Limits.
 
-pub width-limit-small : (x : Section) → widthLimit x < 2 ^ 53
+pub width-limit-small : (environment : ℕ) → widthLimit environment < 2 ^ 53
 unfolding widthLimit
-width-limit-small x = omega (arith, choice-most (eqb (x .environment) 1) 300 200)
+width-limit-small environment = omega (arith, choice-most (eqb environment 1) 300 200)
 
-pub deflection-limit-small : (x : Section) → Bounded x → deflectionLimit x < 2 ^ 53
+pub deflection-limit-small : (span strict : ℕ) → span ≤ 12000 → deflectionLimit span strict < 2 ^ 53
 unfolding deflectionLimit
-deflection-limit-small x a =
-    let d = divisor-between (l₀ x) (x .strict) .0 in
-    let k : deflectionLimit x ≤ 100 * l₀ x = down-le d (omega (arith, mul-le-mul-left (100 * l₀ x) d)) in
-    omega (arith, a .l₀-most)
+deflection-limit-small span strict most =
+    let d = divisor-between span strict .0 in
+    let k : deflectionLimit span strict ≤ 100 * span = down-le d (omega (arith, mul-le-mul-left (100 * span) d)) in
+    omega (arith, most)
 
 -- a whole number against a fraction rounded down: as against the fraction
 down-leb : (k n : ℕ) {d : ℕ} → 0 < d → leb k (down n d) ≡ leb (k * d) n
 down-leb k n {d} p = same-le k (down n d) (k * d) n (λ h. omega (arith, mul-le-mul-right d h, down-below n d)) (λ h. le-down p h)
 
-deflection-by-limit : (x : Section) → leb (deflection x) (deflectionLimit x) ≡ deflectionHolds x
+deflection-by-limit : (x : Section) → leb (deflection x) (deflectionLimit (l₀ x) (x .strict)) ≡ deflectionHolds x
 unfolding deflectionLimit deflectionHolds
 deflection-by-limit x = down-leb (deflection x) (100 * l₀ x) (divisor-between (l₀ x) (x .strict) .0)
 
 -- ---- The four of a member.
 
-beam-nearest : (x : Section) (o : Outcome) → Bounded x → ExactFigures o → beamUtilization quotient x o ≡ beamUtilization nearest x o
+beam-nearest : (x : Beam) (o : Outcome) → AcceptedBeam x → ExactFigures o → beamUtilization quotient x o ≡ beamUtilization nearest x o
 unfolding beamUtilization
 beam-nearest x o a e =
     rw (
-      figure-nearest (M x) (o .first) (omega (arith, a .M-most)) (e .first),
-      figure-nearest (Vd x) (o .second) (omega (arith, a .Vd-most)) (e .second),
-      limit-nearest _ _ (e .third) (width-limit-small x),
-      limit-nearest _ _ (e .fourth) (deflection-limit-small x a),
+      figure-nearest (x .M) (o .first) (omega (arith, a .M-most)) (e .first),
+      figure-nearest (x .Vd) (o .second) (omega (arith, a .Vd-most)) (e .second),
+      limit-nearest _ _ (e .third) (width-limit-small (x .environment)),
+      limit-nearest _ _ (e .fourth) (deflection-limit-small _ (x .strict) (a .l₀-most)),
     )
 
 column-nearest : (x : Column) (o : Outcome) → AcceptedColumn x → ExactFigures o → columnUtilization quotient x o ≡ columnUtilization nearest x o
@@ -88,21 +86,20 @@ member-exact : (m : Member) → AcceptedMember m → ExactFigures (outcomeOf m)
 member-exact m a = exact-figures (outcomeOf m) (member-short m a)
 
 member-nearest : (m : Member) → AcceptedMember m → utilizationOf quotient m (outcomeOf m) ≡ utilizationOf nearest m (outcomeOf m)
-member-nearest (beam mark x) a = beam-nearest (sectionOf x) _ (bounded x (a .1)) (member-exact (beam mark x) a)
+member-nearest (beam mark x) a = beam-nearest x _ (a .1) (member-exact (beam mark x) a)
 member-nearest (column mark x) a = column-nearest x _ (a .1) (member-exact (column mark x) a)
 member-nearest (mesh mark x) a = mesh-nearest x _ (a .1) (member-exact (mesh mark x) a)
 
 member-decides : (m : Member) → AcceptedMember m → DecidesMember m (utilizationOf nearest m (outcomeOf m))
-unfolding beamUtilization columnUtilization meshUtilization
+unfolding beamUtilization columnUtilization meshUtilization sectionOf
 member-decides (beam mark x) a =
-    let s = sectionOf x in
     let e = member-exact (beam mark x) a in
     let f = beam-figures x (a .1) in
     record {
       moment = figure-decides _ _ _ (e .first) (f .moment);
       shear = figure-decides _ _ _ (e .second) (f .shear);
-      width = limit-decides _ _ _ (f .width) (width-limit-small s);
-      deflection = rw (← deflection-by-limit s) (limit-decides _ _ _ (f .deflection-is) (deflection-limit-small s (bounded x (a .1))));
+      width = limit-decides _ _ _ (f .width) (width-limit-small (x .environment));
+      deflection = rw (← deflection-by-limit (sectionOf x)) (limit-decides _ _ _ (f .deflection-is) (deflection-limit-small _ (x .strict) (a .1 .l₀-most)));
     }
 member-decides (column mark x) a =
     record { axial = figure-decides _ _ _ (member-exact (column mark x) a .first) (axial-figure x _ _ (column-given x (a .1))) }
@@ -118,11 +115,9 @@ member-decides (mesh mark x) a =
 nearest-member-nonneg : (m : Member) → AcceptedMember m → FiniteNonneg (ratiosOf (utilizationOf nearest m (outcomeOf m)))
 unfolding beamUtilization columnUtilization meshUtilization
 nearest-member-nonneg (beam mark x) a =
-    let s = sectionOf x in
-    let t = bounded x (a .1) in
     let e = member-exact (beam mark x) a in (
-      figure-nonneg (M s) _ (omega (arith, t .M-most)),
-      (figure-nonneg (Vd s) _ (omega (arith, t .Vd-most)), (limit-nonneg _ (widthLimit s) (e .third), (limit-nonneg _ (deflectionLimit s) (e .fourth), tt))),
+      figure-nonneg (x .M) _ (omega (arith, a .1 .M-most)),
+      (figure-nonneg (x .Vd) _ (omega (arith, a .1 .Vd-most)), (limit-nonneg _ _ (e .third), (limit-nonneg _ _ (e .fourth), tt))),
     )
 nearest-member-nonneg (column mark x) a =
     (figure-nonneg (x .N) _ (omega (arith, a .1 .N-most)), (no-ratio-nonneg, (no-ratio-nonneg, (no-ratio-nonneg, tt))))
@@ -135,14 +130,10 @@ member-nonneg m a = rw (member-nearest m a) (nearest-member-nonneg m a)
 
 -- ---- By kind.
 
-pub beam-bounded : {x : Beam} {y : Section} → y ≡ sectionOf x → AcceptedBeam x → Bounded y
-beam-bounded {x} e a = rw e (bounded x a)
-
 module _ (mark : ℕ) (v : List ℕ) (o : Outcome) {kind : MemberKind} {u : Utilization} where
-  pub of-beam : {x : Beam} {y : Section} → kind ≡ kinds.Beam → x ≡ beamAt v → y ≡ sectionOf x → u ≡ beamUtilization quotient y o →
-      u ≡ utilizationOf quotient (memberAt mark kind v) o
+  pub of-beam : {x : Beam} → kind ≡ kinds.Beam → x ≡ beamAt v → u ≡ beamUtilization quotient x o → u ≡ utilizationOf quotient (memberAt mark kind v) o
   unfolding memberAt
-  of-beam p q r e = rw p (e ∙ rw (r, q))
+  of-beam p q e = rw p (e ∙ rw q)
 
   pub of-column : {x : Column} → kind ≡ kinds.Column → x ≡ columnAt v → u ≡ columnUtilization quotient x o → u ≡ utilizationOf quotient (memberAt mark kind v) o
   unfolding memberAt

@@ -56,7 +56,7 @@ utilizationAnswer x = utilizationBy (builtVerdict (x .mark) (x .kind) (x .fields
 pub record DecidesBeam (x : Section) (u : Utilization) : Type 0 where
   pub moment : Decides (u .firstReached) (u .first) (leb (M x) (bendingCapacity x))
   pub shear : Decides (u .secondReached) (u .second) (leb (Vd x) (shearCapacity x))
-  pub width : Decides (u .thirdReached) (u .third) (leb (crackWidth x) (widthLimit x))
+  pub width : Decides (u .thirdReached) (u .third) (leb (crackWidth x) (widthLimit (x .environment)))
   pub deflection : Decides (u .fourthReached) (u .fourth) (deflectionHolds x)
 
 pub record DecidesColumn (x : Column) (u : Utilization) : Type 0 where

@@ -1,8 +1,8 @@
 // How far each check of a member is used: its demand over its figure, or its figure over its limit.
 ghost use mathlib.Core.Path.{_≡_};
-ghost use Rattle.member.specs.Member.{columnOf, meshOf};
-ghost use Rattle.member.specs.Accepted.{AcceptedColumn, AcceptedMesh, AcceptedMember};
-ghost use Rattle.section.specs.Bounded.{Bounded};
+ghost use Prim.Native.Nat.{_≤_};
+ghost use Rattle.member.specs.Member.{beamOf, columnOf, meshOf};
+ghost use Rattle.member.specs.Accepted.{AcceptedBeam, AcceptedColumn, AcceptedMesh, AcceptedMember};
 ghost use Rattle.field_layout.specs.Layout.{memberAt};
 ghost use Rattle.ratio.specs.Ratio.{quotient, ExactFigures};
 ghost use Rattle.utilization.specs.Utilization.{deflectionLimit, beamUtilization, columnUtilization, meshUtilization, utilizationOf};
@@ -15,9 +15,11 @@ use field_layout::column_of;
 use field_layout::mesh_of;
 use field_table::MemberKind;
 use field_table::kind_of;
+use member::Beam;
 use member::Column;
 use member::Mesh;
 use outcome::Outcome;
+use quantity::Length;
 use quantity::div_down;
 use question::Refusal;
 use question::Verdict;
@@ -26,8 +28,6 @@ use ratio::no_ratio;
 use ratio::over_figure;
 use ratio::over_limit;
 use ratio::together;
-use section::Section;
-use section::section_of;
 use verdict::Built;
 use verdict::built_verdict;
 
@@ -37,18 +37,18 @@ pub enum UtilizationAnswer {
     Refused(Refusal),
 }
 
-// The limit of the deflection, 0.01 mm.
-fn deflection_limit(x: Section) -> u64
-    requires { ⌜ Bounded x ⌝ }
-    ensures { λ r. ⌜ r ≡ deflectionLimit x ⌝ }
+// The limit of the deflection over a span, 0.01 mm.
+fn deflection_limit(l0: Length, strict: u32) -> u64
+    requires { ⌜ l0 .0 ≤ 12000 ⌝ }
+    ensures { λ r. ⌜ r ≡ deflectionLimit (l0 .0) strict ⌝ }
 {
-    let span = 100 * x.l0.in_millimetres();
-    div_down(span, span_divisor(x.l0, x.strict))
+    let span = 100 * l0.in_millimetres();
+    div_down(span, span_divisor(l0, strict))
 }
 
-fn beam_utilization(x: Section, o: Outcome) -> Utilization
-    requires { ⌜ (Bounded x) × (ExactFigures o) ⌝ }
-    ensures { λ r. ⌜ r ≡ beamUtilization quotient x o ⌝ }
+fn beam_utilization(x: Beam, o: Outcome) -> Utilization
+    requires { ⌜ (AcceptedBeam (beamOf x)) × (ExactFigures o) ⌝ }
+    ensures { λ r. ⌜ r ≡ beamUtilization quotient (beamOf x) o ⌝ }
 {
     let first = o.first;
     let second = o.second;
@@ -57,8 +57,8 @@ fn beam_utilization(x: Section, o: Outcome) -> Utilization
     together(
         over_figure(x.M, first),
         over_figure(x.v.in_newtons(), second),
-        over_limit(third, width_limit(x)),
-        over_limit(fourth, deflection_limit(x)),
+        over_limit(third, width_limit(x.environment)),
+        over_limit(fourth, deflection_limit(x.l0, x.strict)),
     )
 }
 
@@ -95,7 +95,7 @@ fn member_utilization(mark: u32, kind: MemberKind, v: &[u32; 40], o: Outcome) ->
     ensures { λ r. ⌜ r ≡ utilizationOf quotient (memberAt mark kind (now (v .entry))) o ⌝ }
 {
     match kind {
-        MemberKind::Beam => beam_utilization(section_of(beam_of(v)), o),
+        MemberKind::Beam => beam_utilization(beam_of(v), o),
         MemberKind::Column => column_utilization(column_of(v), o),
         MemberKind::Mesh => mesh_utilization(mesh_of(v), o),
     }
@@ -106,7 +106,7 @@ pub fn utilization_of(x: Built) -> UtilizationAnswer
     ensures { λ r. ⌜ Utilized x r ⌝ }
 {
     let v = x.fields.v;
-    match built_verdict(x) {
+    match built_verdict(x.mark, x.kind, &v) {
         Verdict::Refused(q) => UtilizationAnswer::Refused(Refusal {
             question: q,
             member: 1,

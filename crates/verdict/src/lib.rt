@@ -109,14 +109,13 @@ fn fields_verdict(kind: MemberKind, v: &[u32; 40]) -> Verdict
     }
 }
 
-// The questions put to a single built member.
-pub fn built_verdict(x: Built) -> Verdict
-    ensures { λ r. ⌜ r ≡ builtVerdict (x .mark) (x .kind) (x .fields .v) ⌝ }
+// The questions put to a single built member with this mark, the kind of this number and these slots.
+pub fn built_verdict(mark: u32, number: u32, v: &[u32; 40]) -> Verdict
+    ensures { λ r. ⌜ r ≡ builtVerdict mark number (now (v .entry)) ⌝ }
 {
-    let v = x.fields.v;
-    if mark_in_range(x.mark) {
-        if is_known(x.kind) {
-            fields_verdict(kind_of(x.kind), &v)
+    if mark_in_range(mark) {
+        if is_known(number) {
+            fields_verdict(kind_of(number), v)
         } else {
             Verdict::Refused(Question::Kind)
         }

@@ -1,27 +1,27 @@
 -- `field_check::beam_holds` meets its contract.
 use lib.ListN.{take, drop}
 use Rattle.field_table.specs.Fields.{tensionCount, compressionCount, groups, beamFields}
-use Rattle.field_check.proofs.Joined.{then-part, then-field}
+use Rattle.field_check.proofs.Joined.{part-then, field-then}
 use borrow.Author.Needs.{needs}
 use Rattle.field_check.proofs.beam_holds.Statement.{statement}
 use Rattle.field_check.proofs.beam_holds.Tie as tie
 
 returns : tie.Need-returns
 returns c =
-    let w = c .before in
-    let b3 = w .before in
-    let l = b3 .before in
-    let b2 = l .before in
-    let s = b2 .before in
-    let b1 = s .before .before in
-    let t = b1 .before in
-    then-part (take 26 beamFields) (drop 26 beamFields) 0 _
-    (then-part (take 18 beamFields) (groups compressionCount) 0 _
-    (then-field (take 17 beamFields) 0 _
-    (then-part (take 9 beamFields) (groups tensionCount) 0 _ (t .before .beam-section-holds .ensures) (t .list-holds .ensures) (b1 .and .ensures))
-    (s .before .beam-field .ensures) (s .slot-holds .ensures) (b2 .and2 .ensures))
-    (l .list-holds2 .ensures) (b3 .and3 .ensures))
-    (w .beam-loads-hold .ensures) (c .and4 .ensures)
+    let s = c .before in
+    let b3 = s .before in
+    let t = b3 .before in
+    let b2 = t .before in
+    let n = b2 .before in
+    let b1 = n .before .before in
+    let l = b1 .before in
+    part-then (take 9 beamFields) (drop 9 beamFields) 0 _ (s .beam-section-holds .ensures)
+    (part-then (groups tensionCount) (drop 17 beamFields) 9 _ (t .list-holds2 .ensures)
+    (field-then (drop 18 beamFields) 17 _ (n .before .beam-field .ensures) (n .slot-holds .ensures)
+    (part-then (groups compressionCount) (drop 26 beamFields) 18 _ (l .list-holds .ensures) (l .before .beam-loads-hold .ensures) (b1 .and .ensures))
+    (b2 .and2 .ensures))
+    (b3 .and3 .ensures))
+    (c .and4 .ensures)
 
 pub beam-holds-spec : {M : Type 1} → statement M
 beam-holds-spec =

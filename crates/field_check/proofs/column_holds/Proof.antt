@@ -1,19 +1,19 @@
 -- `field_check::column_holds` meets its contract.
 use lib.ListN.{take, drop}
 use Rattle.field_table.specs.Fields.{columnCount, groups, columnFields}
-use Rattle.field_check.proofs.Joined.{then-part}
+use Rattle.field_check.proofs.Joined.{part-then}
 use borrow.Author.Needs.{needs}
 use Rattle.field_check.proofs.column_holds.Statement.{statement}
 use Rattle.field_check.proofs.column_holds.Tie as tie
 
 returns : tie.Need-returns
 returns c =
-    let w = c .before in
-    let b = w .before in
-    let g = b .before in
-    then-part (take 13 columnFields) (drop 13 columnFields) 0 _
-    (then-part (take 5 columnFields) (groups columnCount) 0 _ (g .before .column-section-holds .ensures) (g .list-holds .ensures) (b .and .ensures))
-    (w .column-loads-hold .ensures) (c .and2 .ensures)
+    let s = c .before in
+    let b = s .before in
+    let l = b .before in
+    part-then (take 5 columnFields) (drop 5 columnFields) 0 _ (s .column-section-holds .ensures)
+    (part-then (groups columnCount) (drop 13 columnFields) 5 _ (l .list-holds .ensures) (l .before .column-loads-hold .ensures) (b .and .ensures))
+    (c .and2 .ensures)
 
 pub column-holds-spec : {M : Type 1} → statement M
 column-holds-spec =

@@ -1,5 +1,4 @@
 -- `field_check::column_loads_hold` meets its contract.
-use mathlib.Core.Bool.{true}
 use lib.ListN.{drop}
 use Rattle.field_table.specs.Fields.{columnFields}
 use Rattle.field_check.proofs.Joined.{joined-hold}
@@ -16,7 +15,7 @@ returns c =
     (rw (b2 .and2 .ensures, b2 .before .slot-holds3 .ensures, b2 .before .before .column-field3 .ensures)
     (rw (b1 .and .ensures, b1 .before .slot-holds2 .ensures, b1 .before .before .column-field2 .ensures)
     (rw (s1 .slot-holds .ensures, s1 .before .column-field .ensures)
-    (joined-hold true (drop 13 columnFields) 13 _))))
+    (joined-hold (drop 13 columnFields) 13 _))))
 
 pub column-loads-hold-spec : {M : Type 1} → statement M
 column-loads-hold-spec =

@@ -1,5 +1,4 @@
 -- `field_check::column_section_holds` meets its contract.
-use mathlib.Core.Bool.{true}
 use lib.ListN.{take}
 use Rattle.field_table.specs.Fields.{columnFields}
 use Rattle.field_check.proofs.Joined.{joined-hold}
@@ -18,7 +17,7 @@ returns c =
     (rw (b2 .and2 .ensures, b2 .before .slot-holds3 .ensures, b2 .before .before .column-field3 .ensures)
     (rw (b1 .and .ensures, b1 .before .slot-holds2 .ensures, b1 .before .before .column-field2 .ensures)
     (rw (s1 .slot-holds .ensures, s1 .before .column-field .ensures)
-    (joined-hold true (take 5 columnFields) 0 _)))))
+    (joined-hold (take 5 columnFields) 0 _)))))
 
 pub column-section-holds-spec : {M : Type 1} → statement M
 column-section-holds-spec =

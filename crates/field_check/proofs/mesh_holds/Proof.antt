@@ -1,5 +1,4 @@
 -- `field_check::mesh_holds` meets its contract.
-use mathlib.Core.Bool.{true}
 use Rattle.field_table.specs.Fields.{meshFields}
 use Rattle.field_check.proofs.Joined.{joined-hold}
 use borrow.Author.Needs.{needs}
@@ -29,7 +28,7 @@ returns c =
     (rw (b2 .and2 .ensures, b2 .before .slot-holds3 .ensures, b2 .before .before .mesh-field3 .ensures)
     (rw (b1 .and .ensures, b1 .before .slot-holds2 .ensures, b1 .before .before .mesh-field2 .ensures)
     (rw (s1 .slot-holds .ensures, s1 .before .mesh-field .ensures)
-    (joined-hold true meshFields 0 _)))))))))))
+    (joined-hold meshFields 0 _)))))))))))
 
 pub mesh-holds-spec : {M : Type 1} → statement M
 mesh-holds-spec =

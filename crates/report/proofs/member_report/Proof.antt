@@ -19,7 +19,7 @@ print-line-requires c κs =
     let a = k .before .before in
     let t = a .before in
     let v = t .before .before in
-    line-fits (v .before .before .before .args .x) _ (sym (v .built-verdict .ensures) ∙ t .enum-told .given .1) (rw (a .kind-of .ensures) at (k .check-member .ensures))
+    line-fits (v .before .before .before .before .args .x) _ (sym (v .built-verdict .ensures) ∙ t .enum-told .given .1) (rw (a .kind-of .ensures) at (k .check-member .ensures))
 
 returns : tie.Need-returns
 returns c = member-refused _ _ _ (sym (c .before .before .before .built-verdict .ensures) ∙ c .before .q .given .1)
@@ -30,8 +30,8 @@ returns-2 c =
     let a = k .before .before in
     let t = a .before in
     let v = t .before .before in
-    member-reported (v .before .before .before .args .x) _ _ _ (sym (v .built-verdict .ensures) ∙ t .enum-told .given .1)
-    (printed-member (v .before .before .before .args .x) _ (rw (a .kind-of .ensures) at (k .check-member .ensures)) (c .before .before .print-line .ensures))
+    member-reported (v .before .before .before .before .args .x) _ _ _ (sym (v .built-verdict .ensures) ∙ t .enum-told .given .1)
+    (printed-member (v .before .before .before .before .args .x) _ (rw (a .kind-of .ensures) at (k .check-member .ensures)) (c .before .before .print-line .ensures))
 
 pub member-report-spec : {M : Type 1} → statement M
 member-report-spec =

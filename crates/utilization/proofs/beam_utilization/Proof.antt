@@ -9,7 +9,7 @@ over-limit-requires : tie.Need-over-limit-requires
 over-limit-requires c κs = (search needs, rw (c .width-limit .ensures) (width-limit-small _))
 
 over-limit-requires-2 : tie.Need-over-limit-requires-2
-over-limit-requires-2 c κs = (search needs, rw (c .deflection-limit .ensures) (deflection-limit-small _ (c .before .before .before .before .before .before .pre .0)))
+over-limit-requires-2 c κs = (search needs, rw (c .deflection-limit .ensures) (deflection-limit-small _ _ (c .before .before .before .before .before .before .pre .0 .l₀-most)))
 
 returns : tie.Need-returns
 unfolding beamUtilization

@@ -1,20 +1,14 @@
 -- `utilization::member_utilization` meets its contract.
 use Rattle.checks.proofs.Safe.{as-beam, as-column, as-mesh}
-use Rattle.utilization.proofs.Utilized.{beam-bounded, of-beam, of-column, of-mesh}
+use Rattle.utilization.proofs.Utilized.{of-beam, of-column, of-mesh}
 use borrow.Author.Needs.{needs}
 use Rattle.utilization.proofs.member_utilization.Statement.{statement}
 use Rattle.utilization.proofs.member_utilization.Tie as tie
 
-section-of-requires : tie.Need-section-of-requires
-section-of-requires c κs =
-    let t = c .before in
-    rw (c .beam-of .ensures) (as-beam _ _ (t .enum-told .given .1) (t .before .before .pre .0))
-
 beam-utilization-requires : tie.Need-beam-utilization-requires
 beam-utilization-requires c κs =
-    let b = c .before in
-    let t = b .before in
-    (beam-bounded (c .section-of .ensures) (rw (b .beam-of .ensures) (as-beam _ _ (t .enum-told .given .1) (t .before .before .pre .0))), t .before .before .pre .1)
+    let t = c .before in
+    (rw (c .beam-of .ensures) (as-beam _ _ (t .enum-told .given .1) (t .before .before .pre .0)), t .before .before .pre .1)
 
 column-utilization-requires : tie.Need-column-utilization-requires
 column-utilization-requires c κs =
@@ -28,9 +22,8 @@ mesh-utilization-requires c κs =
 
 returns : tie.Need-returns
 returns c =
-    let s = c .before in
-    let t = s .before .before in
-    of-beam _ _ _ (t .enum-told .given .1) (s .before .beam-of .ensures) (s .section-of .ensures) (c .beam-utilization .ensures)
+    let t = c .before .before in
+    of-beam _ _ _ (t .enum-told .given .1) (c .before .beam-of .ensures) (c .beam-utilization .ensures)
 
 returns-2 : tie.Need-returns-2
 returns-2 c =
@@ -48,7 +41,6 @@ member-utilization-spec =
     (tie.spec
     (λ c. search needs)
     (λ c κs. search needs)
-    section-of-requires
     beam-utilization-requires
     (λ c. search needs)
     (λ c κs. search needs)

@@ -8,7 +8,7 @@ use Rattle.verdict.proofs.built_verdict.Tie as tie
 returns : tie.Need-returns
 unfolding builtVerdict
 returns c =
-    let n = c .before .before in
+    let n = c .before in
     let k = n .before in
     let m = k .before .before in
     rw (sym (m .before .mark-in-range .ensures) ∙ m .if1 .taken, sym (k .before .is-known .ensures) ∙ k .if2 .taken) (rw (n .kind-of .ensures) at (c .fields-verdict .ensures))
