@@ -2,6 +2,7 @@
 
 use std::collections::BTreeMap;
 
+use crate::make::beams::around;
 use crate::make::hunts::turns_on_u;
 use crate::model::beam::Beam;
 use crate::model::column::Column;
@@ -254,6 +255,9 @@ impl Tally {
         self.add_if(anchorage < required * SCALE, "5.2.5 rounded up", 0);
         self.add_if(mesh.anchorage_given == required, "5.2.5 at", 0);
         self.add_if(mesh.anchorage_given + 1 == required, "5.2.5 one below", 0);
+        if is_by_multiple(mesh) && !mesh.cross_bar {
+            self.given(WORKS_ANCHORAGE, mesh.anchorage_given, required);
+        }
         if outcome.figures().len() == 2 {
             self.lap(mesh);
         }
@@ -269,7 +273,32 @@ impl Tally {
         self.add_if(lap < required * SCALE, "5.3.7 rounded up", 0);
         self.add_if(mesh.lap_given == required, "5.3.7 at", 0);
         self.add_if(mesh.lap_given + 1 == required, "5.3.7 one below", 0);
+        if is_by_multiple(mesh) {
+            let about = if mesh.flat { WORKS_FLAT_LAP } else { WORKS_STACKED_LAP };
+            self.given(about, mesh.lap_given, required);
+        }
     }
+
+    /// A given length one below the required one (0), at it (1) or one above (2).
+    fn given(&mut self, about: &'static str, given: u64, required: u64) {
+        for (length, variant) in around(required).into_iter().zip(0..) {
+            self.add_if(given == length, about, variant);
+        }
+    }
+}
+
+const WORKS_ANCHORAGE: &str = "5.2.5 by 48d, given";
+const WORKS_FLAT_LAP: &str = "5.3.7 by 48d, given";
+const WORKS_STACKED_LAP: &str = "5.3.7 by 34d, given";
+
+/// Family 2 at C25, where the works has a multiple of its own (document 02, wish 1).
+pub fn is_family_2_at_c25(mesh: &Mesh) -> bool {
+    mesh.family == 2 && mesh.concrete.grade == 25
+}
+
+/// Such a mesh whose lengths the multiple decides: at d = 5 it may be the least length of 200 mm.
+fn is_by_multiple(mesh: &Mesh) -> bool {
+    is_family_2_at_c25(mesh) && mesh.diameter > 5
 }
 
 /// A row and column of the anchorage table.
@@ -398,4 +427,7 @@ fn put_mesh_cases(put: &mut impl FnMut(&'static str, &[u64])) {
     put("seismic", &[0, 1, 2, 3, 4]);
     put("5.3.7 d", &[5, 6, 8, 10, 12, 14, 16]);
     put("5.3.7 compression, d", &[5, 6, 8, 10, 12, 14, 16]);
+    for about in [WORKS_ANCHORAGE, WORKS_FLAT_LAP, WORKS_STACKED_LAP] {
+        put(about, &[0, 1, 2]);
+    }
 }

@@ -1,4 +1,4 @@
-//! Document 01's printed schedule and tabled cases.
+//! Document 01's printed schedule and tabled cases, and lengths of request 1.
 
 use std::path::Path;
 
@@ -128,6 +128,30 @@ fn lap() {
     let mut record = mesh();
     record.fields[10] = 341;
     assert_eq!(line(&record), "3 5.3.7 263 342 - -");
+}
+
+/// Document 02, wish 1: 48 diameters at C25 for anchorage without cross bar and flat laps, and nowhere else.
+#[test]
+fn works_multiple() {
+    // Family 2 of 10 mm: concrete, cross bar, lapping, the lengths given, and the line.
+    let cases = [
+        (25, 0, 2, 480, 624, "3 OK 480 624 - -"),
+        (25, 0, 2, 481, 625, "3 OK 480 624 - -"),
+        (25, 0, 2, 479, 624, "3 5.2.5 480 - - -"),
+        (25, 0, 2, 480, 623, "3 5.3.7 480 624 - -"),
+        (25, 0, 1, 480, 442, "3 OK 480 442 - -"),
+        (25, 0, 1, 480, 443, "3 OK 480 442 - -"),
+        (25, 0, 1, 480, 441, "3 5.3.7 480 442 - -"),
+        (25, 1, 2, 340, 624, "3 OK 340 624 - -"),
+        (25, 1, 1, 340, 442, "3 OK 340 442 - -"),
+        (20, 0, 2, 550, 715, "3 OK 550 715 - -"),
+        (30, 0, 2, 430, 559, "3 OK 430 559 - -"),
+        (30, 0, 2, 429, 559, "3 5.2.5 430 - - -"),
+    ];
+    for (concrete, cross, lapping, anchorage, lap, expected) in cases {
+        let fields = [2, concrete, 10, cross, 0, 0, 0, lapping, 0, anchorage, lap];
+        assert_eq!(line(&Record::mesh(3, fields)), expected);
+    }
 }
 
 #[test]

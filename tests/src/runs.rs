@@ -1,5 +1,6 @@
 //! What a comparison is run on.
 
+use crate::branches::is_family_2_at_c25;
 use crate::comparison::{Checker, Comparison};
 use crate::make::{
     self, beams, columns, damage, edges, encode, equalities, hunts, lists, meshes, Random, Record,
@@ -100,9 +101,16 @@ fn equality_schedules<C: Checker>(comparison: &mut Comparison<C>, random: &Rando
     together(comparison, random, records)
 }
 
-/// Each mesh there is, with given lengths at the required ones.
+/// Each mesh there is, with given lengths at the required ones; those of family 2 at C25 also with lengths around them.
 fn every_mesh<C: Checker>(comparison: &mut Comparison<C>, random: &Random) -> Outcome {
     let mut records = meshes::every_mesh();
+    let wanted = |record: &&Record| meshes::as_mesh(record).is_some_and(|m| is_family_2_at_c25(&m));
+    let near: Vec<Record> =
+        records.iter().filter(wanted).flat_map(meshes::hugging_meshes).collect();
+    for record in &near {
+        comparison.built(record)?;
+    }
+    records.extend(near);
     for chunk in records.chunks_mut(500) {
         make::renumber(random, chunk);
         comparison.records(chunk)?;

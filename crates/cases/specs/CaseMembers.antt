@@ -1,4 +1,4 @@
--- The three members of document 01's printed schedule: by their fields, as a caller builds them, and as a schedule's bytes; and three whose fields are numbered, to show which stands where.
+-- The three members of document 01's printed schedule: by their fields, as a caller builds them, and as a schedule's bytes; three whose fields are numbered, to show which stands where; a mesh of family 2.
 use Prim.Native.Nat.{ℕ, _-_}
 use mathlib.Core.List.{List, [], _∷_, _++_}
 use lib.ListN.{length, replicate}
@@ -89,6 +89,10 @@ builtColumn = built 2 2 (400 ∷ 400 ∷ 30 ∷ 1 ∷ 1 ∷ 8 ∷ 250 ∷ 4000 �
 
 abbrev pub builtMesh : ℕ → ℕ → Lent
 builtMesh anchorage lap = built 3 3 (1 ∷ 30 ∷ 10 ∷ 1 ∷ 0 ∷ 0 ∷ 3 ∷ 1 ∷ 0 ∷ anchorage ∷ lap ∷ [])
+
+-- mesh 4, of family 2 without cross bar, d = 10, with its concrete, lapping, anchorage and lap
+abbrev pub builtMesh₄ : ℕ → ℕ → ℕ → ℕ → Lent
+builtMesh₄ concrete lapping anchorage lap = built 4 3 (2 ∷ concrete ∷ 10 ∷ 0 ∷ 0 ∷ 0 ∷ 0 ∷ lapping ∷ 0 ∷ anchorage ∷ lap ∷ [])
 
 -- ---- With another number in each place: which field stands where. The numbers mean nothing.
 

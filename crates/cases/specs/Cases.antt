@@ -34,6 +34,7 @@ use Rattle.cases.specs.CaseMembers.{
   builtBeam,
   builtColumn,
   builtMesh,
+  builtMesh₄,
   placedBeam,
   beamPlaced,
   placedColumn,
@@ -172,6 +173,12 @@ pub record Table : Type 0 where
   pub line-2 : lentReportOf builtColumn (bars 8 20) [] ≡ got (bytes "2 OK 2816134 - - -\n")
   pub line-3 : lentReportOf (builtMesh 270 350) [] [] ≡ got (bytes "3 OK 263 342 - -\n")
   pub count-above : lentReportOf (builtBeam 2) (bars 4 20) [] ≡ no (refusal Field 1)
+  -- mesh 4, of family 2 without cross bar: 48 diameters at C25 in its anchorage and a flat lap (document 02, wish 1), 34 in a stacked lap, 43 at C30
+  pub works-met : lentReportOf (builtMesh₄ 25 2 480 624) [] [] ≡ got (bytes "4 OK 480 624 - -\n")
+  pub works-anchorage-short : lentReportOf (builtMesh₄ 25 2 479 624) [] [] ≡ got (bytes "4 5.2.5 480 - - -\n")
+  pub works-lap-short : lentReportOf (builtMesh₄ 25 2 480 623) [] [] ≡ got (bytes "4 5.3.7 480 624 - -\n")
+  pub works-stacked : lentReportOf (builtMesh₄ 25 1 480 442) [] [] ≡ got (bytes "4 OK 480 442 - -\n")
+  pub works-not-at-30 : lentReportOf (builtMesh₄ 30 2 430 559) [] [] ≡ got (bytes "4 OK 430 559 - -\n")
   -- totals of a list: S in tenths of mm², D and E; and a count above the list
   pub totals : barTotals 1 (bars 4 20) ≡ record { question = 0; member = 0; bars = 4; area = 12568; diameters = 80; squares = 1600 }
   pub totals-above : barTotals 2 (bars 4 20) ≡ record { question = 7; member = 1; bars = 0; area = 0; diameters = 0; squares = 0 }

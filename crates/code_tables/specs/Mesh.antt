@@ -1,4 +1,4 @@
--- Anchorage of ribbed welded mesh as a multiple of the diameter: 000, table 5.2.5.
+-- Anchorage of ribbed welded mesh as a multiple of the diameter: 000, table 5.2.5, but for one number.
 use Prim.Native.Nat.{ℕ, _+_, _-_, _*_, _/_, min}
 use mathlib.Core.List.{List, [], _∷_}
 use lib.ListN.{getD}
@@ -9,8 +9,8 @@ multiples =
     -- family 1 (CRB550, CRB600H, HRB400, HRBF400): without cross bar, with
     (45 ∷ 40 ∷ 35 ∷ 32 ∷ 30 ∷ [])
     ∷ (32 ∷ 28 ∷ 25 ∷ 22 ∷ 21 ∷ [])
-    -- family 2 (HRB500, HRBF500): without cross bar, with
-    ∷ (55 ∷ 43 ∷ 43 ∷ 39 ∷ 36 ∷ [])
+    -- family 2 (HRB500, HRBF500): without cross bar, with. 48 at C25 is the works' own (document 02, wish 1); 000 has 43.
+    ∷ (55 ∷ 48 ∷ 43 ∷ 39 ∷ 36 ∷ [])
     ∷ (39 ∷ 34 ∷ 30 ∷ 27 ∷ 25 ∷ [])
     ∷ []
 

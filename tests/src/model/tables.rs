@@ -101,11 +101,12 @@ pub const STABILITY: [u64; 22] =
     [100, 98, 95, 92, 87, 81, 75, 70, 65, 60, 56, 52, 48, 44, 40, 36, 32, 29, 26, 23, 21, 19];
 
 /// Anchorage multiples of d at C20, 25, 30, 35, 40 and above, by family and cross bar (5.2.5).
+/// The 48 is the works' own (document 02, wish 1).
 pub fn anchorage_multiple(family: u64, cross_bar: bool, grade: u64) -> u64 {
     let row = match (family, cross_bar) {
         (1, false) => [45, 40, 35, 32, 30],
         (1, true) => [32, 28, 25, 22, 21],
-        (_, false) => [55, 43, 43, 39, 36],
+        (_, false) => [55, 48, 43, 39, 36],
         (_, true) => [39, 34, 30, 27, 25],
     };
     row[(grade.min(40) / 5 - 4) as usize]
