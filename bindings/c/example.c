@@ -1,7 +1,9 @@
 /* Document 01's beam 1 built by a caller: its line, its utilizations and the totals of its bars. Then the schedule on standard
- * input, reported. */
+ * input, reported. Then document 01's three members held as records: written, compared with standard input, reported; and
+ * what the writer refuses. */
 #include <inttypes.h>
 #include <stdio.h>
+#include <string.h>
 
 #include "koxaltes.h"
 
@@ -31,6 +33,53 @@ static koxaltes_member beam(void) {
     return m;
 }
 
+static const koxaltes_record records[] = {
+    {.mark = 1,
+     .kind = KOXALTES_BEAM,
+     .fields.beam = {.b = 250,
+                     .h = 500,
+                     .bf = 250,
+                     .tension_distance = 40,
+                     .concrete = 30,
+                     .steel = 1,
+                     .tension_groups = 1,
+                     .tension = {{.diameter = 20, .bars = 4}},
+                     .link_diameter = 8,
+                     .legs = 2,
+                     .link_spacing = 200,
+                     .link_steel = 1,
+                     .cover = 30,
+                     .span = 6000,
+                     .m = 150000,
+                     .mq = 90000,
+                     .v = 120000,
+                     .environment = 1}},
+    {.mark = 2,
+     .kind = KOXALTES_COLUMN,
+     .fields.column = {.b = 400,
+                       .h = 400,
+                       .concrete = 30,
+                       .steel = 1,
+                       .groups = 1,
+                       .list = {{.diameter = 20, .bars = 8}},
+                       .link_diameter = 8,
+                       .link_spacing = 250,
+                       .l0 = 4000,
+                       .n = 2500000}},
+    {.mark = 3,
+     .kind = KOXALTES_MESH,
+     .fields.mesh = {.family = 1,
+                     .concrete = 30,
+                     .diameter = 10,
+                     .cross_bar = 1,
+                     .seismic = 3,
+                     .lap = 1,
+                     .anchorage_given = 270,
+                     .lap_given = 350}},
+};
+
+enum { RECORDS = sizeof records / sizeof records[0] };
+
 static void print(koxaltes_answer a, const uint8_t *text) {
     if (a.question == KOXALTES_ACCEPTED) {
         fwrite(text, 1, a.length, stdout);
@@ -52,18 +101,48 @@ static void print_totals(koxaltes_bar_totals_answer a) {
     }
 }
 
-int main(void) {
-    /* one byte more than a schedule may have, so that a longer one is refused and not cut */
-    static uint8_t schedule[KOXALTES_LONGEST_SCHEDULE + 1];
-    static uint8_t out[KOXALTES_LONGEST_REPORT];
+static void print_written(koxaltes_answer a, const uint8_t *file, const uint8_t *schedule, size_t length) {
+    if (a.question != KOXALTES_ACCEPTED) {
+        printf("refused %u member %u\n", a.question, a.member);
+    } else if (a.length == length && memcmp(file, schedule, length) == 0) {
+        printf("written %zu bytes, as read\n", a.length);
+    } else {
+        printf("written %zu bytes, others than read\n", a.length);
+    }
+}
+
+static void show_member(uint8_t *out, size_t out_length) {
     koxaltes_member m = beam();
-    print(koxaltes_member_report(m, tension, 1, none, 0, out, sizeof out), out);
+    print(koxaltes_member_report(m, tension, 1, none, 0, out, out_length), out);
     print_utilization(koxaltes_member_utilization(m, tension, 1, none, 0));
     print_totals(koxaltes_bar_totals(tension, 1, 1));
     /* a count above its list: KOXALTES_REFUSED_FIELD */
     m.fields[KOXALTES_BEAM_TENSION_GROUPS] = 2;
-    print(koxaltes_member_report(m, tension, 1, none, 0, out, sizeof out), out);
+    print(koxaltes_member_report(m, tension, 1, none, 0, out, out_length), out);
+}
+
+static void show_records(const uint8_t *schedule, size_t length, uint8_t *out, size_t out_length) {
+    static uint8_t file[KOXALTES_LONGEST_FILE];
+    koxaltes_answer a = koxaltes_write_records(records, RECORDS, file, sizeof file);
+    print_written(a, file, schedule, length);
+    if (a.question != KOXALTES_ACCEPTED) {
+        return;
+    }
+    print(koxaltes_report(file, a.length, out, out_length), out);
+    /* a buffer one byte short: KOXALTES_REFUSED_FILE */
+    print_written(koxaltes_write_records(records, RECORDS, file, a.length - 1), file, schedule, length);
+    /* more records than a schedule may have, all of zeros: KOXALTES_REFUSED_COUNT */
+    static koxaltes_record many[KOXALTES_MOST_MEMBERS + 1];
+    print_written(koxaltes_write_records(many, KOXALTES_MOST_MEMBERS + 1, file, sizeof file), file, schedule, length);
+}
+
+int main(void) {
+    /* one byte more than a schedule may have, so that a longer one is refused and not cut */
+    static uint8_t schedule[KOXALTES_LONGEST_SCHEDULE + 1];
+    static uint8_t out[KOXALTES_LONGEST_REPORT];
+    show_member(out, sizeof out);
     size_t length = fread(schedule, 1, sizeof schedule, stdin);
     print(koxaltes_report(schedule, length, out, sizeof out), out);
+    show_records(schedule, length, out, sizeof out);
     return 0;
 }

@@ -5,9 +5,10 @@
  * may call it.
  *
  * Every entry takes any input: bytes, numbers and list lengths are questioned, never trusted. A caller owes what C owes: a
- * pointer that is not null and valid for its length (also where the length is 0), and an `out` that overlaps nothing else lent;
- * for utilizations also the default floating-point rounding mode, to nearest.
- * What each entry yields is proved: crates/koxaltes/src/lib.rt has the contracts. This header is written by hand. */
+ * pointer that is not null (also where the length is 0), aligned for its type and valid for its length, and an `out` that
+ * overlaps nothing else lent; for utilizations also the default floating-point rounding mode, to nearest.
+ * What each entry yields is proved: crates/koxaltes/src/lib.rt has the contracts. This header is written by hand, its
+ * inline function too. */
 #ifndef KOXALTES_H
 #define KOXALTES_H
 
@@ -23,9 +24,9 @@
  * MAJOR: something changed or went; compile again and read the manual again. While MAJOR is 0, a new MINOR may do the same.
  * A program meets an added question or word as a number or word that it does not know, and must take it for a refusal or for
  * a failed check. The archive does not hold its version: use the header and the archive of one checkout. */
-#define KOXALTES_VERSION "0.1.0"
+#define KOXALTES_VERSION "0.2.0"
 #define KOXALTES_VERSION_MAJOR 0
-#define KOXALTES_VERSION_MINOR 1
+#define KOXALTES_VERSION_MINOR 2
 #define KOXALTES_VERSION_PATCH 0
 
 #ifdef __cplusplus
@@ -47,12 +48,16 @@ enum {
     KOXALTES_REFUSED_BARS = 9,         /* more than 40 bars on a face of a beam, or in a column */
     KOXALTES_REFUSED_RATIO = 10,       /* more than 4 percent of tension steel in a beam */
     KOXALTES_REFUSED_TRAILING = 11,    /* bytes after the last member */
-    KOXALTES_REFUSED_BUFFER = 12       /* the text is longer than `out` */
+    KOXALTES_REFUSED_BUFFER = 12,      /* the text is longer than `out` */
+    KOXALTES_REFUSED_FILE = 13         /* the written file is longer than `out` */
 };
 
-/* Limits. No report is longer than KOXALTES_LONGEST_REPORT bytes, no member's line longer than KOXALTES_LONGEST_LINE. */
+/* Limits. A schedule that is read may have KOXALTES_LONGEST_SCHEDULE bytes; none that is written is longer than
+ * KOXALTES_LONGEST_FILE. No report is longer than KOXALTES_LONGEST_REPORT, no member's line longer than
+ * KOXALTES_LONGEST_LINE. */
 enum {
     KOXALTES_LONGEST_SCHEDULE = 60000,
+    KOXALTES_LONGEST_FILE = 29502,
     KOXALTES_LONGEST_REPORT = 27555,
     KOXALTES_LONGEST_LINE = 55,
     KOXALTES_MOST_MEMBERS = 500,
@@ -128,8 +133,80 @@ typedef struct {
     uint32_t fields[KOXALTES_FIELDS];
 } koxaltes_member;
 
-/* KOXALTES_ACCEPTED: member 0; the text stands in the first `length` bytes of `out`, without a 0 byte after it, and the bytes
- * past it are as they were. Any other question: the member that it names, length 0; `out` is as it was. */
+/* A record: a member of a schedule that a caller holds in memory, as KOXALTES_RECORD_WORDS words: its mark, its kind and
+ * KOXALTES_SLOTS slots. The slots hold the fields of its kind in a schedule's order, each group as two; every list has room for
+ * four. Slots past a count and past the kind's last field have no effect. The structs below name the slots of each kind. */
+enum { KOXALTES_SLOTS = 40, KOXALTES_RECORD_WORDS = 42 };
+
+/* Lengths in mm, m and mq in N m, v and n in N. */
+typedef struct {
+    uint32_t b;
+    uint32_t h;
+    uint32_t bf;
+    uint32_t hf;
+    uint32_t tension_distance;     /* as: of the tension steel from its face */
+    uint32_t compression_distance; /* a': of the compression steel */
+    uint32_t concrete;
+    uint32_t steel;
+    uint32_t tension_groups; /* how many of `tension` count */
+    koxaltes_group tension[KOXALTES_MOST_GROUPS];
+    uint32_t compression_groups; /* how many of `compression` count */
+    koxaltes_group compression[KOXALTES_MOST_GROUPS];
+    uint32_t link_diameter;
+    uint32_t legs;
+    uint32_t link_spacing;
+    uint32_t link_steel;
+    uint32_t cover;
+    uint32_t span;
+    uint32_t m;
+    uint32_t mq;
+    uint32_t v;
+    uint32_t environment;
+    uint32_t strict;
+} koxaltes_beam_record;
+
+typedef struct {
+    uint32_t b;
+    uint32_t h;
+    uint32_t concrete;
+    uint32_t steel;
+    uint32_t groups; /* how many of `list` count */
+    koxaltes_group list[KOXALTES_MOST_GROUPS];
+    uint32_t link_diameter;
+    uint32_t link_spacing;
+    uint32_t l0;
+    uint32_t n;
+} koxaltes_column_record;
+
+typedef struct {
+    uint32_t family;
+    uint32_t concrete;
+    uint32_t diameter;
+    uint32_t cross_bar;
+    uint32_t paired;
+    uint32_t apart;
+    uint32_t seismic;
+    uint32_t lap;
+    uint32_t compression;
+    uint32_t anchorage_given;
+    uint32_t lap_given;
+} koxaltes_mesh_record;
+
+/* `kind` says which of `fields` counts. A record is words and nothing between them: an array of records is its words. */
+typedef struct {
+    uint32_t mark;
+    uint32_t kind;
+    union {
+        koxaltes_beam_record beam;
+        koxaltes_column_record column;
+        koxaltes_mesh_record mesh;
+        uint32_t slots[KOXALTES_SLOTS];
+    } fields;
+} koxaltes_record;
+
+/* KOXALTES_ACCEPTED: member 0; the text, or the written file, stands in the first `length` bytes of `out`, without a 0 byte
+ * after it, and the bytes past it are as they were. Any other question: the member that it names, length 0; `out` is as it
+ * was. */
 typedef struct {
     uint32_t question;
     uint32_t member;
@@ -189,6 +266,21 @@ koxaltes_utilization_answer koxaltes_member_utilization(koxaltes_member member, 
  * member 1 where the count is above 4 or above the length, or one of those groups is out of range. A count of 0 gives zeros. */
 koxaltes_bar_totals_answer koxaltes_bar_totals(const koxaltes_group *groups, size_t groups_length, size_t count);
 
+/* The file of a held schedule into `out`. `words` are records one after the other; words past the last whole record are not
+ * read. KOXALTES_REFUSED_COUNT where there are more than 500; then each record's questions, from KOXALTES_REFUSED_MARK to
+ * KOXALTES_REFUSED_RATIO, the first no with its place from 1; KOXALTES_REFUSED_FILE last. No records give the file 00.
+ * The file is an accepted schedule with these members, and no other file has them. */
+koxaltes_answer koxaltes_write_schedule(const uint32_t *words, size_t word_count, uint8_t *out, size_t out_length);
+
+/* koxaltes_write_schedule of `count` records.
+ * Words: each is a uint32_t of a record and is read as one, so C's rules of aliasing hold.
+ * Count: more than 500 are refused alike and unread, so 501 stand for any more, and the product cannot overflow. */
+static inline koxaltes_answer koxaltes_write_records(const koxaltes_record *records, size_t count, uint8_t *out,
+                                                     size_t out_length) {
+    size_t taken = count > KOXALTES_MOST_MEMBERS ? KOXALTES_MOST_MEMBERS + 1 : count;
+    return koxaltes_write_schedule((const uint32_t *)records, taken * KOXALTES_RECORD_WORDS, out, out_length);
+}
+
 #ifdef __cplusplus
 }
 #endif
@@ -204,6 +296,32 @@ koxaltes_bar_totals_answer koxaltes_bar_totals(const koxaltes_group *groups, siz
 KOXALTES_KEEPS(sizeof(koxaltes_group) == 8 && offsetof(koxaltes_group, bars) == 4);
 KOXALTES_KEEPS(sizeof(koxaltes_member) == 104 && offsetof(koxaltes_member, kind) == 4);
 KOXALTES_KEEPS(offsetof(koxaltes_member, fields) == 8);
+#define KOXALTES_SLOT(kind, field) (offsetof(koxaltes_##kind##_record, field) / 4)
+KOXALTES_KEEPS(sizeof(koxaltes_beam_record) == 4 * 37 && sizeof(koxaltes_column_record) == 4 * 17);
+KOXALTES_KEEPS(sizeof(koxaltes_mesh_record) == 4 * 11);
+KOXALTES_KEEPS(KOXALTES_SLOT(beam, h) == 1 && KOXALTES_SLOT(beam, bf) == 2 && KOXALTES_SLOT(beam, hf) == 3);
+KOXALTES_KEEPS(KOXALTES_SLOT(beam, tension_distance) == 4 && KOXALTES_SLOT(beam, compression_distance) == 5);
+KOXALTES_KEEPS(KOXALTES_SLOT(beam, concrete) == 6 && KOXALTES_SLOT(beam, steel) == 7);
+KOXALTES_KEEPS(KOXALTES_SLOT(beam, tension_groups) == 8 && KOXALTES_SLOT(beam, tension) == 9);
+KOXALTES_KEEPS(KOXALTES_SLOT(beam, compression_groups) == 17 && KOXALTES_SLOT(beam, compression) == 18);
+KOXALTES_KEEPS(KOXALTES_SLOT(beam, link_diameter) == 26 && KOXALTES_SLOT(beam, legs) == 27);
+KOXALTES_KEEPS(KOXALTES_SLOT(beam, link_spacing) == 28 && KOXALTES_SLOT(beam, link_steel) == 29);
+KOXALTES_KEEPS(KOXALTES_SLOT(beam, cover) == 30 && KOXALTES_SLOT(beam, span) == 31 && KOXALTES_SLOT(beam, m) == 32);
+KOXALTES_KEEPS(KOXALTES_SLOT(beam, mq) == 33 && KOXALTES_SLOT(beam, v) == 34 && KOXALTES_SLOT(beam, environment) == 35);
+KOXALTES_KEEPS(KOXALTES_SLOT(beam, strict) == 36);
+KOXALTES_KEEPS(KOXALTES_SLOT(column, h) == 1 && KOXALTES_SLOT(column, concrete) == 2);
+KOXALTES_KEEPS(KOXALTES_SLOT(column, steel) == 3 && KOXALTES_SLOT(column, groups) == 4);
+KOXALTES_KEEPS(KOXALTES_SLOT(column, list) == 5 && KOXALTES_SLOT(column, link_diameter) == 13);
+KOXALTES_KEEPS(KOXALTES_SLOT(column, link_spacing) == 14 && KOXALTES_SLOT(column, l0) == 15);
+KOXALTES_KEEPS(KOXALTES_SLOT(column, n) == 16);
+KOXALTES_KEEPS(KOXALTES_SLOT(mesh, concrete) == 1 && KOXALTES_SLOT(mesh, diameter) == 2);
+KOXALTES_KEEPS(KOXALTES_SLOT(mesh, cross_bar) == 3 && KOXALTES_SLOT(mesh, paired) == 4);
+KOXALTES_KEEPS(KOXALTES_SLOT(mesh, apart) == 5 && KOXALTES_SLOT(mesh, seismic) == 6 && KOXALTES_SLOT(mesh, lap) == 7);
+KOXALTES_KEEPS(KOXALTES_SLOT(mesh, compression) == 8 && KOXALTES_SLOT(mesh, anchorage_given) == 9);
+KOXALTES_KEEPS(KOXALTES_SLOT(mesh, lap_given) == 10);
+#undef KOXALTES_SLOT
+KOXALTES_KEEPS(sizeof(koxaltes_record) == 4 * KOXALTES_RECORD_WORDS && offsetof(koxaltes_record, kind) == 4);
+KOXALTES_KEEPS(offsetof(koxaltes_record, fields) == 8);
 KOXALTES_KEEPS(sizeof(koxaltes_answer) == 16 && offsetof(koxaltes_answer, member) == 4);
 KOXALTES_KEEPS(offsetof(koxaltes_answer, length) == 8);
 KOXALTES_KEEPS(sizeof(koxaltes_utilization) == 40 && offsetof(koxaltes_utilization, second) == 8);

@@ -1,5 +1,7 @@
 //! Which cases of document 01 the compared members reached.
 
+mod written;
+
 use std::collections::BTreeMap;
 
 use crate::make::beams::around;
@@ -9,6 +11,8 @@ use crate::model::column::Column;
 use crate::model::member::{Body, Member};
 use crate::model::mesh::{Mesh, SCALE};
 use crate::model::outcome::{Check, Outcome};
+
+pub use written::required_of_writer;
 
 /// A case: what it is about, and which of its variants.
 pub type Case = (&'static str, u64);
@@ -46,9 +50,9 @@ impl Tally {
         self.counts.iter()
     }
 
-    /// Required cases that were not reached.
-    pub fn missing(&self) -> Vec<Case> {
-        required().into_iter().filter(|case| self.count(*case) == 0).collect()
+    /// The cases, of those required, that were not reached.
+    pub fn missing(&self, required: Vec<Case>) -> Vec<Case> {
+        required.into_iter().filter(|case| self.count(*case) == 0).collect()
     }
 
     /// Notes the cases that a member's checks went through.
@@ -141,11 +145,11 @@ impl Tally {
         let edge = [300, 301, 500, 501, 800, 801].contains(&beam.h);
         self.add_if(edge && beam.spacing == limit + 1, height, beam.h);
         self.add_if(1000 * beam.shear == beam.concrete_shear(), "V at 0.7 ft b h0", 0);
-        self.add("link steel, fyv", beam.fyv);
+        self.add("link steel, fyv", beam.link_steel.fyv);
         if outcome.failed == Some(Check::LinkSpacing) {
             return;
         }
-        let provided = 1000 * beam.link_area() * beam.fyv;
+        let provided = 1000 * beam.link_area() * beam.link_steel.fyv;
         let least = 24 * beam.concrete.ft * beam.b * beam.spacing;
         self.add_if(beam.needs_links() && provided == least, "5.5.6r at", 0);
         self.add_if(!beam.needs_links() && provided < least, "5.5.6r not put", 0);

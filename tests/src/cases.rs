@@ -1,4 +1,6 @@
-//! Document 01's printed schedule and tabled cases, and lengths of request 1.
+//! Document 01's printed schedule and tabled cases, and what the requests add.
+
+mod written;
 
 use std::path::Path;
 

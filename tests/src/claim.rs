@@ -106,7 +106,8 @@ fn moment(beam: &Beam) -> (&'static str, Fraction) {
 fn shear(beam: &Beam) -> Fraction {
     let (h0, ft) = (whole(beam.h0()), of(beam.concrete.ft, 100));
     let links = whole(beam.legs) * steel_area(tables::area(beam.link_diameter).unwrap());
-    of(7, 10) * ft * whole(beam.b) * h0.clone() + whole(beam.fyv) * links * h0 / whole(beam.spacing)
+    of(7, 10) * ft * whole(beam.b) * h0.clone()
+        + whole(beam.link_steel.fyv) * links * h0 / whole(beam.spacing)
 }
 
 /// f = Mq/(0.87·h0·As), N/mm².
@@ -185,7 +186,8 @@ fn plain_of_beam(beam: &Beam) -> Vec<Plain> {
     let concrete = of(7, 10) * ft.clone() * whole(beam.b) * whole(beam.h0());
     let needed = whole(beam.shear) > concrete;
     let links = whole(beam.legs) * steel_area(tables::area(beam.link_diameter).unwrap());
-    let least = of(24, 100) * ft.clone() * whole(beam.b * beam.spacing) / whole(beam.fyv);
+    let least =
+        of(24, 100) * ft.clone() * whole(beam.b * beam.spacing) / whole(beam.link_steel.fyv);
     let plain = |name, holds| Plain { name, holds };
     vec![
         plain("6.3.1", area >= of(2, 1000) * gross.clone() && tension >= of(45, 100) * ft * gross),

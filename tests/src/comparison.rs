@@ -1,8 +1,10 @@
 //! Holds a checker against the model: answers, whole buffers, utilizations, totals, and demand 3.
 
+mod written;
+
 use crate::branches::Tally;
 use crate::claim;
-use crate::guard::{Guarded, List};
+use crate::guard::{Guarded, List, Words};
 use crate::library::{self, BarTotals, Utilization};
 use crate::make::{encode, Random, Record};
 use crate::model::built::{self, Built, Group};
@@ -11,8 +13,9 @@ use crate::model::outcome::{Check, Outcome};
 use crate::model::report;
 use crate::model::schedule::{self, Refusal};
 use crate::model::utilization;
+use crate::model::writing;
 
-/// The four entries that are compared.
+/// The five entries that are compared.
 pub trait Checker {
     fn report(&self, schedule: &[u8], out: &mut [u8]) -> Result<usize, Refusal>;
     fn member_report(
@@ -24,6 +27,7 @@ pub trait Checker {
     ) -> Result<usize, Refusal>;
     fn member_utilization(&self, built: &Built, first: List, second: List) -> Utilization;
     fn bar_totals(&self, groups: List, count: usize) -> BarTotals;
+    fn write_schedule(&self, words: Words, out: &mut [u8]) -> Result<usize, Refusal>;
 }
 
 /// The static library.
@@ -50,6 +54,10 @@ impl Checker for Library {
 
     fn bar_totals(&self, groups: List, count: usize) -> BarTotals {
         library::bar_totals(groups, count)
+    }
+
+    fn write_schedule(&self, words: Words, out: &mut [u8]) -> Result<usize, Refusal> {
+        library::write_schedule(words, out)
     }
 }
 
@@ -79,28 +87,39 @@ impl Checker for Model {
     fn bar_totals(&self, groups: List, count: usize) -> BarTotals {
         BarTotals::expected(built::totals(groups.readable(), count))
     }
+
+    fn write_schedule(&self, words: Words, out: &mut [u8]) -> Result<usize, Refusal> {
+        writing::write_schedule(words.readable(), words.length(), out)
+    }
 }
 
-/// Numbers of answers: by question, and 0 for a written text.
-pub type Answers = [u64; 13];
+/// Numbers of answers: by question, and 0 for a written text or schedule.
+pub type Answers = [u64; 14];
 
 /// A comparison under way; each method yields a description of the first difference.
 pub struct Comparison<'a, C> {
     checker: C,
     random: &'a Random,
     junk: Vec<u8>,
-    /// Where the checker's inputs lie: a schedule or the two lists, then the output.
+    /// Where the checker's inputs lie: a schedule, words or the two lists, then the output.
     guards: [Guarded; 3],
     pub tally: Tally,
+    /// The writer's cases.
+    pub writer_tally: Tally,
     pub schedules: u64,
     pub members: u64,
     pub built: u64,
     pub lists: u64,
+    /// Lists of members that the writer was given as words, accepted or not.
+    pub word_lists: u64,
+    /// Accepted schedules, each written again from its members.
+    pub written: u64,
     pub calls: u64,
     pub schedule_answers: Answers,
     pub built_answers: Answers,
     pub utilization_answers: Answers,
     pub totals_answers: Answers,
+    pub writer_answers: Answers,
 }
 
 /// Longer than any report and any compared schedule.
@@ -138,7 +157,9 @@ fn hex(bytes: &[u8]) -> String {
 fn shown(answer: Result<usize, Refusal>, buffer: &[u8]) -> String {
     match answer {
         Ok(length) => {
-            let text = String::from_utf8_lossy(&buffer[..length.min(buffer.len())]).into_owned();
+            let bytes = &buffer[..length.min(buffer.len())];
+            let is_text = bytes.iter().all(|byte| matches!(byte, b' '..=b'~' | b'\n'));
+            let text = if is_text { String::from_utf8_lossy(bytes).into() } else { hex(bytes) };
             format!("{length} bytes:\n{text}")
         }
         Err(Refusal { question, member }) => format!("refused {question} member {member}"),
@@ -172,15 +193,19 @@ impl<'a, C: Checker> Comparison<'a, C> {
             junk: random.junk(2 * LONGEST),
             guards: std::array::from_fn(|_| Guarded::new(LONGEST)),
             tally: Tally::default(),
+            writer_tally: Tally::default(),
             schedules: 0,
             members: 0,
             built: 0,
             lists: 0,
+            word_lists: 0,
+            written: 0,
             calls: 0,
-            schedule_answers: [0; 13],
-            built_answers: [0; 13],
-            utilization_answers: [0; 13],
-            totals_answers: [0; 13],
+            schedule_answers: [0; 14],
+            built_answers: [0; 14],
+            utilization_answers: [0; 14],
+            totals_answers: [0; 14],
+            writer_answers: [0; 14],
         }
     }
 
@@ -197,7 +222,7 @@ impl<'a, C: Checker> Comparison<'a, C> {
         vec![length, length - 1, 0, between, beyond, LONGEST.min(length * 100)]
     }
 
-    /// One schedule with every room.
+    /// One schedule with every room; an accepted one is written again from its members.
     pub fn schedule(&mut self, bytes: &[u8]) -> Result<(), String> {
         self.schedules += 1;
         let mut text = self.buffer(LONGEST);
@@ -209,7 +234,11 @@ impl<'a, C: Checker> Comparison<'a, C> {
         for room in rooms {
             self.schedule_in(bytes, room)?;
         }
-        answer.map_or(Ok(()), |length| self.accepted(bytes, &text[..length]))
+        if let Ok(length) = answer {
+            self.accepted(bytes, &text[..length])?;
+            self.written_again(bytes)?;
+        }
+        Ok(())
     }
 
     /// One schedule with a buffer of this length.

@@ -1,13 +1,17 @@
 //! The comparison and the claim notice what they are there to notice.
 
+mod written;
+
 use std::os::unix::process::ExitStatusExt;
 use std::process::Command;
 
+use crate::branches::{required, required_of_writer};
 use crate::claim::check_line;
 use crate::comparison::{Checker, Comparison, Model};
-use crate::guard::List;
+use crate::guard::{List, Words};
 use crate::library::{BarTotals, Utilization};
 use crate::make::record::place;
+use crate::make::words::of_records;
 use crate::make::{random_member, Random, Record};
 use crate::model::built::{Built, Group};
 use crate::model::member::Member;
@@ -15,7 +19,7 @@ use crate::model::report;
 use crate::model::schedule::Refusal;
 use crate::runs;
 
-#[derive(Clone, Copy, PartialEq)]
+#[derive(Clone, Copy, Debug, PartialEq)]
 enum Fault {
     None,
     /// A byte past the text is changed.
@@ -32,8 +36,24 @@ enum Fault {
     OtherTotal(usize),
     /// A group past the count is taken as well, where it can be read.
     PastCount,
-    /// A group past the count is read; the answer is right.
+    /// A group past the count, or a word past the last whole member, is read; the answer is right.
     ReadPastCount,
+    /// The writer takes a beam's lists for each other.
+    Exchanged,
+    /// The writer takes the groups of a beam's lists for each other, not their counts.
+    GroupsExchanged,
+    /// The writer takes the number of words for one of 32 bits.
+    NarrowLength,
+    /// The writer refuses a schedule that fills its buffer.
+    ExactRoom,
+    /// The writer changes a byte before it answers 13.
+    ByteBefore13,
+    /// The writer answers 13 before a later member's own question.
+    RoomFirst,
+    /// The writer does not compare marks with those before.
+    MarksAlone,
+    /// The writer leaves the count out.
+    NoCount,
 }
 
 struct Faulty(Fault);
@@ -42,7 +62,7 @@ impl Faulty {
     fn spoil(&self, answer: Result<usize, Refusal>, out: &mut [u8]) -> Result<usize, Refusal> {
         match (self.0, answer) {
             (Fault::PastText, Ok(length)) if length < out.len() => out[length] ^= 1,
-            (Fault::OtherText, Ok(length)) => out[length - 2] ^= 1,
+            (Fault::OtherText, Ok(length)) => out[length.max(2) - 2] ^= 1,
             (Fault::BufferOnRefusal, Err(_)) if !out.is_empty() => out[0] ^= 1,
             (Fault::OtherMember, Err(refusal)) => {
                 return Err(Refusal { member: refusal.member + 1, ..refusal });
@@ -117,6 +137,10 @@ impl Checker for Faulty {
         }
         totals
     }
+
+    fn write_schedule(&self, words: Words, out: &mut [u8]) -> Result<usize, Refusal> {
+        self.write(words, out)
+    }
 }
 
 fn mesh() -> Record {
@@ -175,12 +199,13 @@ fn a_read_past_the_count_faults() {
         let mut comparison = Comparison::new(Faulty(Fault::ReadPastCount), &random);
         let outcome = match input.as_str() {
             "list" => comparison.list(&beam().first, 1),
+            "words" => comparison.words(&of_records(&[beam(), mesh()], &random)),
             "beam" => comparison.built(&beam()),
             _ => comparison.built(&mesh()),
         };
         panic!("{outcome:?} after the read");
     }
-    for input in ["list", "beam", "mesh"] {
+    for input in ["list", "words", "beam", "mesh"] {
         let mut again = Command::new(std::env::current_exe().expect("a path"));
         again.args(["--exact", "faults::a_read_past_the_count_faults"]).env(INPUT, input);
         let ended = again.output().expect("a run").status;
@@ -193,7 +218,8 @@ fn the_model_equals_itself_and_meets_demand_3() {
     let random = Random::new(9);
     let mut comparison = Comparison::new(Model, &random);
     assert_eq!(runs::quick(&mut comparison, &random), Ok(()));
-    assert_eq!(comparison.tally.missing(), Vec::new());
+    assert_eq!(comparison.tally.missing(required()), Vec::new());
+    assert_eq!(comparison.writer_tally.missing(required_of_writer()), Vec::new());
     assert!(comparison.totals_answers[0] > 0 && comparison.totals_answers[7] > 0);
 }
 

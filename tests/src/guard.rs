@@ -57,27 +57,30 @@ impl Guarded {
         }
     }
 
-    /// A list of this length, of which only these first groups can be read.
-    pub fn list(&mut self, (groups, length): (&[Group], usize)) -> List<'_> {
-        assert!(groups.len() <= length, "more groups than the list has");
-        List { readable: self.copy(groups), length }
+    /// A list of this length, of which only these first items can be read.
+    pub fn list<T: Copy>(&mut self, (items, length): (&[T], usize)) -> List<'_, T> {
+        assert!(items.len() <= length, "more items than the list has");
+        List { readable: self.copy(items), length }
     }
 }
 
-/// A list as it is lent: start and length. It may be longer than what can be read of it; then the
-/// guard follows, and a read of the rest faults.
+/// A list as it is lent, of groups or of words: start and length. It may be longer than what can be
+/// read of it; then the guard follows, and a read of the rest faults.
 #[derive(Clone, Copy)]
-pub struct List<'a> {
-    readable: &'a [Group],
+pub struct List<'a, T = Group> {
+    readable: &'a [T],
     length: usize,
 }
 
-impl<'a> List<'a> {
-    pub fn readable(&self) -> &'a [Group] {
+/// Members as words.
+pub type Words<'a> = List<'a, u32>;
+
+impl<'a, T> List<'a, T> {
+    pub fn readable(&self) -> &'a [T] {
         self.readable
     }
 
-    pub fn start(&self) -> *const Group {
+    pub fn start(&self) -> *const T {
         self.readable.as_ptr()
     }
 
@@ -86,9 +89,9 @@ impl<'a> List<'a> {
     }
 }
 
-impl<'a> From<&'a [Group]> for List<'a> {
-    fn from(groups: &'a [Group]) -> Self {
-        List { readable: groups, length: groups.len() }
+impl<'a, T> From<&'a [T]> for List<'a, T> {
+    fn from(items: &'a [T]) -> Self {
+        List { readable: items, length: items.len() }
     }
 }
 

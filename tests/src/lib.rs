@@ -1,5 +1,5 @@
-//! A second implementation of the checker, written from document 01 alone, and what is
-//! needed to compare it with the static library.
+//! A second implementation of the checker and writer, written from documents 01 and 02 alone, and
+//! what is needed to compare it with the static library.
 
 pub mod branches;
 pub mod claim;

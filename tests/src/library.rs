@@ -1,6 +1,6 @@
 //! The static library's C interface.
 
-use crate::guard::List;
+use crate::guard::{List, Words};
 use crate::model::built::{Built, FIELDS};
 use crate::model::member::Bars;
 use crate::model::schedule::Refusal;
@@ -83,6 +83,7 @@ extern "C" {
         n2: usize,
     ) -> CUtilizationAnswer;
     fn koxaltes_bar_totals(groups: *const CGroup, n: usize, count: usize) -> BarTotals;
+    fn koxaltes_write_schedule(words: *const u32, n: usize, out: *mut u8, room: usize) -> CAnswer;
 }
 
 fn member(built: &Built) -> CMember {
@@ -94,7 +95,7 @@ fn list(groups: List) -> (*const CGroup, usize) {
     (groups.start().cast(), groups.length())
 }
 
-/// The length of the text, or the refusal. A refusal has length 0, an answer no member.
+/// The length of what was written, or the refusal. A refusal has length 0, an answer no member.
 fn answer(answer: CAnswer) -> Result<usize, Refusal> {
     if answer.question == 0 {
         assert_eq!(answer.member, 0, "an answer names no member");
@@ -202,4 +203,12 @@ pub fn bar_totals(groups: List, count: usize) -> BarTotals {
     let (groups, n) = list(groups);
     // SAFETY: the list is valid for its length, save what is not to be read of it.
     unsafe { koxaltes_bar_totals(groups, n, count) }
+}
+
+/// The schedule of members held as words.
+pub fn write_schedule(words: Words, out: &mut [u8]) -> Result<usize, Refusal> {
+    let (start, n) = (words.start(), words.length());
+    // SAFETY: the areas are valid for their lengths, save what is not to be read of the words; `out`
+    // overlaps none of them.
+    answer(unsafe { koxaltes_write_schedule(start, n, out.as_mut_ptr(), out.len()) })
 }

@@ -1,10 +1,11 @@
-//! Generators of schedules, built members and lists.
+//! Generators of schedules, built members, and lists of groups and of members.
 
 pub mod beams;
 pub mod columns;
 pub mod damage;
 pub mod edges;
 pub mod equalities;
+pub mod flaws;
 pub mod hunts;
 pub mod lists;
 pub mod meshes;
@@ -12,12 +13,14 @@ pub mod random;
 pub mod record;
 pub mod stored;
 pub mod vectors;
+pub mod words;
+pub mod written;
 
 pub use beams::{hugging_beams, random_beam};
 pub use columns::{hugging_columns, random_column};
 pub use meshes::{hugging_meshes, random_mesh};
 pub use random::Random;
-pub use record::{encode, push_number, Record};
+pub use record::{decode, encode, push_number, Record};
 
 /// A likely accepted member of any kind.
 pub fn random_member(random: &Random) -> Record {
@@ -50,5 +53,30 @@ pub fn renumber(random: &Random, records: &mut [Record]) {
         if let Some(last) = records.last_mut() {
             last.mark = 999_999;
         }
+    }
+}
+
+/// An accepted member of any kind.
+pub fn accepted(random: &Random) -> Record {
+    loop {
+        let record = random_member(random);
+        if record.read().is_some() {
+            return record;
+        }
+    }
+}
+
+/// Accepted members with rising marks.
+pub fn accepted_list(random: &Random, count: usize) -> Vec<Record> {
+    let mut records: Vec<Record> = (0..count).map(|_| accepted(random)).collect();
+    renumber(random, &mut records);
+    records
+}
+
+/// Marks that are equal or fall at one place.
+pub fn without_rise(records: &mut [Record], random: &Random) {
+    if records.len() > 1 {
+        let place = random.within(1, records.len() as u64 - 1) as usize;
+        records[place].mark = records[place - 1].mark - random.below(2) as u32;
     }
 }

@@ -1,5 +1,7 @@
 //! What a comparison is run on.
 
+pub mod written;
+
 use crate::branches::is_family_2_at_c25;
 use crate::comparison::{Checker, Comparison};
 use crate::make::{
@@ -25,7 +27,9 @@ pub fn all<C: Checker>(
     damaged_schedules(comparison, random, 8 * multiplier)?;
     long_schedules(comparison, random, 10 * multiplier)?;
     built_members(comparison, random, 6000 * multiplier)?;
-    group_lists(comparison, random, 6000 * multiplier)
+    group_lists(comparison, random, 6000 * multiplier)?;
+    written::edge_lists(comparison, random, multiplier)?;
+    written::lists(comparison, random, 6000 * multiplier)
 }
 
 /// A short run that still reaches every case.
@@ -37,7 +41,8 @@ pub fn quick<C: Checker>(comparison: &mut Comparison<C>, random: &Random) -> Out
     every_mesh(comparison, random)?;
     every_slenderness(comparison, random)?;
     built_members(comparison, random, 100)?;
-    group_lists(comparison, random, 100)
+    group_lists(comparison, random, 100)?;
+    written::lists(comparison, random, 100)
 }
 
 /// Schedules of few members, accepted or not.
@@ -50,9 +55,8 @@ fn random_schedules<C: Checker>(
         let length = random.below(9);
         let mut records: Vec<Record> = (0..length).map(|_| make::random_member(random)).collect();
         make::renumber(random, &mut records);
-        if random.one_in(20) && length > 1 {
-            let place = 1 + random.below(length - 1) as usize;
-            records[place].mark = records[place - 1].mark - random.below(2) as u32;
+        if random.one_in(20) {
+            make::without_rise(&mut records, random);
         }
         comparison.records(&records)?;
     }
@@ -149,6 +153,25 @@ fn bases(random: &Random) -> Vec<Record> {
     ]
 }
 
+/// A member with every field at and outside its range's ends.
+fn edges_of(base: &Record) -> Vec<Record> {
+    let mut records = edges::field_edges(base);
+    records.extend(edges::group_edges(base));
+    records.extend(edges::question_edges(base));
+    records
+}
+
+/// A record between two others, with rising marks, save that its own stays where it is out of range.
+fn between(random: &Random, record: Record, last: &Record) -> [Record; 3] {
+    let mark = record.mark;
+    let mut three = [meshes::random_mesh(random), record, last.clone()];
+    make::renumber(random, &mut three);
+    if !(1..=999_999).contains(&mark) {
+        three[1].mark = mark;
+    }
+    three
+}
+
 /// Every field at and outside its range's ends, alone, inside a schedule, and built.
 fn edge_members<C: Checker>(
     comparison: &mut Comparison<C>,
@@ -157,18 +180,10 @@ fn edge_members<C: Checker>(
 ) -> Outcome {
     for _ in 0..count {
         for base in bases(random) {
-            let mut records = edges::field_edges(&base);
-            records.extend(edges::group_edges(&base));
-            records.extend(edges::question_edges(&base));
-            for record in records {
+            for record in edges_of(&base) {
                 comparison.built(&record)?;
                 comparison.records(std::slice::from_ref(&record))?;
-                let mut three = [meshes::random_mesh(random), record.clone(), base.clone()];
-                make::renumber(random, &mut three);
-                if !(1..=999_999).contains(&record.mark) {
-                    three[1].mark = record.mark;
-                }
-                comparison.records(&three)?;
+                comparison.records(&between(random, record, &base))?;
             }
         }
     }
@@ -209,15 +224,7 @@ fn long_schedules<C: Checker>(
 ) -> Outcome {
     for _ in 0..count {
         let length = random.pick(&[100, 499, 500, 500, 501]);
-        let mut records = Vec::new();
-        while records.len() < length {
-            let record = make::random_member(random);
-            if record.read().is_some() {
-                records.push(record);
-            }
-        }
-        make::renumber(random, &mut records);
-        let mut bytes = encode(&records);
+        let mut bytes = encode(&make::accepted_list(random, length));
         comparison.schedule(&bytes)?;
         comparison.schedule(&bytes[..bytes.len() - 1])?;
         comparison.schedule(&bytes[..random.below(bytes.len() as u64) as usize])?;

@@ -1,7 +1,11 @@
 //! Document 01's beam 1 built by a caller: its line, its utilizations and the totals of its bars. Then the schedule on standard
-//! input, reported.
+//! input, reported. Then document 01's three members held as records: written, compared with standard input, reported; and
+//! what the writer refuses.
 
-use koxaltes::{Beam, Group, Question, Refusal, LONGEST_REPORT, LONGEST_SCHEDULE};
+use koxaltes::{
+    Beam, Column, Group, Mesh, Question, Record, Refusal, LONGEST_FILE, LONGEST_REPORT,
+    LONGEST_SCHEDULE, MOST_MEMBERS,
+};
 use std::io::Read;
 
 const BEAM: Beam = Beam {
@@ -28,6 +32,39 @@ const BEAM: Beam = Beam {
     strict: 0,
 };
 
+const COLUMN: Column = Column {
+    b: 400,
+    h: 400,
+    concrete: 30,
+    steel: 1,
+    groups: 1,
+    link_diameter: 8,
+    link_spacing: 250,
+    l0: 4000,
+    n: 2_500_000,
+};
+
+const MESH: Mesh = Mesh {
+    family: 1,
+    concrete: 30,
+    diameter: 10,
+    cross_bar: 1,
+    paired: 0,
+    apart: 0,
+    seismic: 3,
+    lap: 1,
+    compression: 0,
+    anchorage_given: 270,
+    lap_given: 350,
+};
+
+const TENSION: [Group; 1] = [Group { diameter: 20, bars: 4 }];
+const COLUMN_BARS: [Group; 1] = [Group { diameter: 20, bars: 8 }];
+
+fn records() -> [Record; 3] {
+    [BEAM.record(1, &TENSION, &[]), COLUMN.record(2, &COLUMN_BARS), MESH.record(3)]
+}
+
 fn print(answer: Result<&[u8], Refusal>) {
     match answer {
         Ok(text) => print!("{}", String::from_utf8_lossy(text)),
@@ -35,26 +72,56 @@ fn print(answer: Result<&[u8], Refusal>) {
     }
 }
 
-fn main() {
-    let tension = [Group { diameter: 20, bars: 4 }];
-    let mut out = [0; LONGEST_REPORT];
-    print(koxaltes::member_report(&BEAM.member(1), &tension, &[], &mut out));
-    if let Ok(u) = koxaltes::member_utilization(&BEAM.member(1), &tension, &[]) {
+fn print_written(answer: Result<&[u8], Refusal>, schedule: &[u8]) {
+    match answer {
+        Ok(file) if file == schedule => println!("written {} bytes, as read", file.len()),
+        Ok(file) => println!("written {} bytes, others than read", file.len()),
+        Err(r) => println!("refused {} member {}", r.question, r.member),
+    }
+}
+
+fn show_member(out: &mut [u8]) {
+    print(koxaltes::member_report(&BEAM.member(1), &TENSION, &[], out));
+    if let Ok(u) = koxaltes::member_utilization(&BEAM.member(1), &TENSION, &[]) {
         let [moment, shear, width, deflection] = u.places.map(|place| place.unwrap_or(f64::NAN));
         let governing = u.governing.unwrap_or(f64::NAN);
         println!("moment {moment:.3} shear {shear:.3} width {width:.3} deflection {deflection:.3} governing {governing:.3}");
     }
-    if let Ok(t) = koxaltes::bar_totals(&tension, 1) {
+    if let Ok(t) = koxaltes::bar_totals(&TENSION, 1) {
         println!("bars {} area {}.{} mm2", t.bars, t.area / 10, t.area % 10);
     }
     // a count above its list
     let two_groups = Beam { tension_groups: 2, ..BEAM };
-    let answer = koxaltes::member_report(&two_groups.member(1), &tension, &[], &mut out);
+    let answer = koxaltes::member_report(&two_groups.member(1), &TENSION, &[], out);
     assert_eq!(answer.err().and_then(|r| r.named()), Some(Question::Field));
     print(answer);
+}
+
+fn show_records(schedule: &[u8], out: &mut [u8]) {
+    let mut buffer = [0; LONGEST_FILE];
+    let answer = koxaltes::write_schedule(&records(), &mut buffer);
+    print_written(answer, schedule);
+    let Ok(file) = answer else { return };
+    print(koxaltes::report(file, out));
+    // a buffer one byte short
+    let mut short = vec![0; file.len() - 1];
+    let answer = koxaltes::write_schedule(&records(), &mut short);
+    assert_eq!(answer.err().and_then(|r| r.named()), Some(Question::File));
+    print_written(answer, schedule);
+    // more records than a schedule may have
+    let many = vec![MESH.record(1); MOST_MEMBERS + 1];
+    let answer = koxaltes::write_schedule(&many, &mut buffer);
+    assert_eq!(answer.err().and_then(|r| r.named()), Some(Question::Count));
+    print_written(answer, schedule);
+}
+
+fn main() {
+    let mut out = [0; LONGEST_REPORT];
+    show_member(&mut out);
     // one byte more than a schedule may have, so that a longer one is refused and not cut
     let mut schedule = Vec::new();
     let mut input = std::io::stdin().take(LONGEST_SCHEDULE as u64 + 1);
     input.read_to_end(&mut schedule).expect("standard input is read");
     print(koxaltes::report(&schedule, &mut out));
+    show_records(&schedule, &mut out);
 }

@@ -1,19 +1,24 @@
 //! Koxaltes, a proved checker of reinforcement schedules, for Rust callers. The manual is `docs/MANUAL.md`.
 //!
-//! Every function takes any input. What each yields is proved: `crates/koxaltes/src/lib.rt` has the contracts. This wrapper is
-//! written by hand. It links a static library for x86-64 Linux (System V AMD64 calling convention).
+//! Every function takes any input. What the library's entries yield is proved: `crates/koxaltes/src/lib.rt` has the contracts.
+//! This wrapper is written by hand, and so is how it makes members and records of named fields. It links a static library for
+//! x86-64 Linux (System V AMD64 calling convention).
 //!
 //! `Ok` says that the input was accepted. It does not say that a member's line says OK: read the line.
 
 pub mod raw;
+#[cfg(test)]
+mod tests;
 
-pub use raw::{Group, Member, FIELDS};
+pub use raw::{Group, Member, Record, FIELDS, RECORD_WORDS, SLOTS};
 
 /// The version of the interface, the same as in `bindings/c/koxaltes.h`, which says what a change of each part means.
 pub const VERSION: &str = env!("CARGO_PKG_VERSION");
 
 /// The longest schedule that is not refused for its size alone (question 1), in bytes.
 pub const LONGEST_SCHEDULE: usize = 60_000;
+/// The longest schedule that is written, in bytes.
+pub const LONGEST_FILE: usize = 29_502;
 /// The longest report, and the longest line of one member, in bytes.
 pub const LONGEST_REPORT: usize = 27_555;
 pub const LONGEST_LINE: usize = 55;
@@ -60,6 +65,8 @@ pub enum Question {
     Trailing = 11,
     /// The text is longer than the buffer.
     Buffer = 12,
+    /// The written file is longer than the buffer.
+    File = 13,
 }
 
 impl Question {
@@ -78,6 +85,7 @@ impl Question {
             10 => Question::Ratio,
             11 => Question::Trailing,
             12 => Question::Buffer,
+            13 => Question::File,
             _ => return None,
         })
     }
@@ -177,6 +185,47 @@ pub struct Mesh {
     pub lap_given: u32,
 }
 
+/// The slots of the groups that a count names in a list. Those of a group that the list does not have hold 0, which is no
+/// diameter.
+fn group_slots(groups: &[Group], count: u32) -> [u32; 2 * MOST_GROUPS] {
+    let mut slots = [0; 2 * MOST_GROUPS];
+    for (two, group) in slots.chunks_exact_mut(2).zip(groups).take(count as usize) {
+        two.copy_from_slice(&[group.diameter, group.bars]);
+    }
+    slots
+}
+
+fn joined(parts: &[&[u32]]) -> [u32; SLOTS] {
+    let mut slots = [0; SLOTS];
+    for (slot, word) in slots.iter_mut().zip(parts.iter().copied().flatten()) {
+        *slot = *word;
+    }
+    slots
+}
+
+impl Record {
+    /// A built member as a record, its lists as for `member_report`: the same member, which is put the same questions and, in
+    /// a schedule, that its mark is above the one before. So a count above 4, or above the length of its list, is a no to 7.
+    /// Groups past a count, and fields past those of the kind, are left out. An unknown kind keeps its fields.
+    pub fn of(member: &Member, first: &[Group], second: &[Group]) -> Record {
+        const BEAM: u32 = Kind::Beam as u32;
+        const COLUMN: u32 = Kind::Column as u32;
+        const MESH: u32 = Kind::Mesh as u32;
+        let f = &member.fields;
+        // each list follows its count: field 8 and 9 of a beam, 4 of a column
+        let slots = match member.kind {
+            BEAM => {
+                let (first, second) = (group_slots(first, f[8]), group_slots(second, f[9]));
+                joined(&[&f[..9], &first, &f[9..10], &second, &f[10..21]])
+            }
+            COLUMN => joined(&[&f[..5], &group_slots(first, f[4]), &f[5..9]]),
+            MESH => joined(&[&f[..11]]),
+            _ => joined(&[f]),
+        };
+        Record { mark: member.mark, kind: member.kind, slots }
+    }
+}
+
 fn built(mark: u32, kind: Kind, used: &[u32]) -> Member {
     let mut fields = [0; FIELDS];
     fields[..used.len()].copy_from_slice(used);
@@ -214,6 +263,11 @@ impl Beam {
             ],
         )
     }
+
+    /// `Record::of` the member and its tension and compression groups.
+    pub fn record(&self, mark: u32, tension: &[Group], compression: &[Group]) -> Record {
+        Record::of(&self.member(mark), tension, compression)
+    }
 }
 
 impl Column {
@@ -226,6 +280,11 @@ impl Column {
             &[x.b, x.h, x.concrete, x.steel, x.groups, links[0], links[1], x.l0, x.n],
         )
     }
+
+    /// `Record::of` the member and its groups.
+    pub fn record(&self, mark: u32, groups: &[Group]) -> Record {
+        Record::of(&self.member(mark), groups, &[])
+    }
 }
 
 impl Mesh {
@@ -234,6 +293,11 @@ impl Mesh {
         let bars = [x.family, x.concrete, x.diameter, x.cross_bar, x.paired, x.apart];
         let rest = [x.seismic, x.lap, x.compression, x.anchorage_given, x.lap_given];
         built(mark, Kind::Mesh, &[&bars[..], &rest[..]].concat())
+    }
+
+    /// `Record::of` the member.
+    pub fn record(&self, mark: u32) -> Record {
+        Record::of(&self.member(mark), &[], &[])
     }
 }
 
@@ -318,4 +382,21 @@ pub fn bar_totals(groups: &[Group], count: usize) -> Result<BarTotals, Refusal> 
         return Err(Refusal { question: a.question, member: a.member });
     }
     Ok(BarTotals { bars: a.bars, area: a.area, diameters: a.diameters, squares: a.squares })
+}
+
+/// The file of a held schedule: its bytes, which fill `out` from its first byte. Refused with question 4 where there are more
+/// than 500 records; then with the first no to 5 to 10 and the record's place from 1; last with 13. A refusal leaves `out` as
+/// it was. The file is an accepted schedule with these members, and no other file has them.
+pub fn write_schedule<'a>(records: &[Record], out: &'a mut [u8]) -> Result<&'a [u8], Refusal> {
+    // SAFETY: a record is `RECORD_WORDS` words without padding, so the pointer is valid for that many times the length, which
+    // no slice makes overflow; `out` is valid for its length and borrowed alone.
+    let answer = unsafe {
+        raw::koxaltes_write_schedule(
+            records.as_ptr().cast(),
+            records.len() * RECORD_WORDS,
+            out.as_mut_ptr(),
+            out.len(),
+        )
+    };
+    written(answer, out)
 }

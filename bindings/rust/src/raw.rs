@@ -1,10 +1,14 @@
-//! The static library's entries as they are: `bindings/c/koxaltes.h` in Rust.
+//! The entries of the archive and their structs, as they are.
 
 /// What an answer's `question` holds where no question was answered no; the others are `Question`'s numbers.
 pub const ACCEPTED: u32 = 0;
 
 /// Places for a built member's fields; a kind has at most 21.
 pub const FIELDS: usize = 24;
+
+/// Slots of a record, and all its words: mark, kind and slots.
+pub const SLOTS: usize = 40;
+pub const RECORD_WORDS: usize = 42;
 
 /// Bars of one diameter (mm).
 #[repr(C)]
@@ -23,7 +27,18 @@ pub struct Member {
     pub fields: [u32; FIELDS],
 }
 
-/// Question 0: written, with the text's length. Any other: the question answered no, and its member.
+/// A record: a member of a schedule that a caller holds in memory, as words. The slots hold the fields of its kind in a
+/// schedule's order, each group as two; every list has room for four. Slots past a count and past the kind's last field have no
+/// effect, but `==` compares them, too; `Record::of` leaves them 0.
+#[repr(C)]
+#[derive(Clone, Copy, Debug, PartialEq, Eq)]
+pub struct Record {
+    pub mark: u32,
+    pub kind: u32,
+    pub slots: [u32; SLOTS],
+}
+
+/// Question 0: written, with the length of the text or file. Any other: the question answered no, and its member.
 #[repr(C)]
 #[derive(Clone, Copy, Debug, PartialEq, Eq)]
 pub struct Answer {
@@ -71,12 +86,16 @@ pub struct BarTotalsAnswer {
 
 // The layout of each struct, as the library has it. It is part of the binary interface: this version keeps it.
 const _: () = {
-    use std::mem::{offset_of, size_of};
+    use std::mem::{align_of, offset_of, size_of};
     assert!(size_of::<Group>() == 8);
     assert!(offset_of!(Group, bars) == 4);
     assert!(size_of::<Member>() == 104);
     assert!(offset_of!(Member, kind) == 4);
     assert!(offset_of!(Member, fields) == 8);
+    assert!(size_of::<Record>() == 4 * RECORD_WORDS);
+    assert!(align_of::<Record>() == align_of::<u32>());
+    assert!(offset_of!(Record, kind) == 4);
+    assert!(offset_of!(Record, slots) == 8);
     assert!(size_of::<Answer>() == 16);
     assert!(offset_of!(Answer, member) == 4);
     assert!(offset_of!(Answer, length) == 8);
@@ -132,4 +151,11 @@ extern "C" {
         groups_length: usize,
         count: usize,
     ) -> BarTotalsAnswer;
+
+    pub fn koxaltes_write_schedule(
+        words: *const u32,
+        word_count: usize,
+        out: *mut u8,
+        out_length: usize,
+    ) -> Answer;
 }

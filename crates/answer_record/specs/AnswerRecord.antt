@@ -1,4 +1,4 @@
--- An answer as a record, for callers in C and Rust: its numbers.
+-- An answer as a struct, for callers in C and Rust: its numbers.
 use Rattle.text_answer.specs.Printed.{Numbers}
 use Rattle.answer_record.specs.declared.AnswerRecord.{AnswerRecord}
 

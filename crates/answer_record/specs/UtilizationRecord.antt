@@ -1,4 +1,4 @@
--- The utilization of a member as a record, for callers in C and Rust.
+-- The utilization of a member as a struct, for callers in C and Rust.
 use mathlib.Core.Bool.{true, false}
 use Rattle.ratio.specs.Ratio.{nought}
 use Rattle.governing.specs.Governing.{DoubleOrNone, double, none, governingOf}

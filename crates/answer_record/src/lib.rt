@@ -1,4 +1,4 @@
-// Answers as records of numbers, for callers in C and Rust: the question that was answered no, or 0.
+// Answers as structs of numbers, for callers in C and Rust: the question that was answered no, or 0.
 ghost use mathlib.Core.Path.{_≡_};
 ghost use Rattle.text_answer.specs.Printed.{numbersOf};
 ghost use Rattle.governing.specs.Governing.{governingValue};
@@ -12,7 +12,7 @@ use question::number_of;
 use ratio::Utilization;
 use text_answer::TextAnswer;
 
-// An answer: question 0 says that the text stands in the buffer's first `length` bytes; any other names the question that was answered
+// An answer: question 0 says that the text, or the file, stands in the buffer's first `length` bytes; any other names the question that was answered
 // no and the member, and the buffer is as it was.
 #[repr(C)]
 pub struct AnswerRecord {
@@ -21,7 +21,7 @@ pub struct AnswerRecord {
     pub length: usize,
 }
 
-// The answer of a report.
+// The answer of a report or of a file.
 pub fn answer_record(a: TextAnswer) -> AnswerRecord
     ensures { λ r. ⌜ r ≡ answerRecord (numbersOf a) ⌝ }
 {

@@ -29,7 +29,7 @@ use Rattle.anchorage.specs.Steps.{basicLength, anchorageLength}
 use Rattle.lap.specs.Steps.{tensionLap, requiredLap, lapLength}
 use Rattle.mesh.specs.Checks.{lapOutcome, meshOutcome}
 use Rattle.field_layout.specs.Layout.{beamAt, columnAt, meshAt, memberAt}
-use Rattle.verdict.specs.Verdict.{beamVerdict, columnVerdict, meshVerdict, memberVerdict, markInRange}
+use Rattle.verdict.specs.Verdict.{beamVerdict, columnVerdict, meshVerdict, memberVerdict, markInRange, fieldsVerdict, builtVerdict}
 use Rattle.ratio.specs.Ratio.{quotient, ratio, overFigure, overLimit}
 use Rattle.utilization.specs.Utilization.{deflectionLimit, beamUtilization, columnUtilization, meshUtilization}
 use Rattle.varint.specs.Varint.{numberAt, septetsAt, lastSeptet}
@@ -43,10 +43,14 @@ use Rattle.lent_member.specs.Lent.{lentBeam, lentColumn, lentMember, lentFields
 use Rattle.koxaltes.specs.Entries.{lentReportOf}
 use Rattle.koxaltes.specs.UtilizationEntry.{lentUtilizationOf}
 use Rattle.program_output.specs.ProgramOutput.{outputOf}
+use Rattle.varint.specs.Encoding.{septetsOf, bytesOf}
+use Rattle.encoding.specs.ScheduleBytes.{bytesOfAll, beamNumbers, columnNumbers, meshNumbers, memberNumbers, membersBytes, scheduleBytes}
+use Rattle.held_schedule.specs.HeldSchedule.{recordAt, recordsFrom, recordsOf, recordVerdict, recordMembers, heldMembers}
+use Rattle.writer.specs.Written.{fileOf}
 use Rattle.cases.specs.Cases.{Table}
 
 pub table : Table
-unfolding parseLine parsedFigure lineOf wordOf split splitMore isDecimal every valueOf valueFrom outputOf reportOf textOf endedBy joinedBy decimal digits lentReportOf lentUtilizationOf lentVerdict lentMember lentBeam lentColumn lentFieldsHold namedHold barTotals numberAt septetsAt lastSeptet schedule members member markAt kindAt markRises markInRange memberBody fields field fieldsOf known kindOf isPresent holds areaOf memberVerdict fieldHolds beamVerdict columnVerdict meshVerdict beamConsistent flangeFits compressionFits depthFits beamBars beamRatio columnConsistent columnBars meshConsistent barCount memberAt beamAt columnAt meshAt beamOutcome sectionOutcome fromDepth fromBending fromShear fromSpacing fromLeastLinks fromStress fromWidth fromDeflection sectionOf concreteOf steelOf fyvOf area sumD sumE groupArea groupDiameters groupSquares leastSteel compressionDepth compressionYields yieldedCapacity coupleCapacity bendingCapacity concreteShear linkShear shearCapacity shearAbove linkSpacing leastLinks spacingLimit stressHolds steelStress stiffening meanStress crackSpacing widthOf σ q crackWidth widthLimit flexibility curvature shortTerm longTerm deflectionOf deflection spanDivisor deflectionHolds columnOutcome linksOutcome slendernessOutcome axialOutcome steelFits linksFit slendernessFits axialCapacity stability interval interpolated concreteArea squashLoad point meshOutcome lapOutcome anchorageLength lapLength requiredLap tensionLap basicLength multiple up down clamp beamUtilization columnUtilization meshUtilization overFigure overLimit ratio deflectionLimit quotient ofInt div round lt
+unfolding fileOf heldMembers recordsOf recordsFrom recordAt recordMembers recordVerdict builtVerdict fieldsVerdict scheduleBytes membersBytes memberNumbers beamNumbers columnNumbers meshNumbers bytesOfAll bytesOf septetsOf parseLine parsedFigure lineOf wordOf split splitMore isDecimal every valueOf valueFrom outputOf reportOf textOf endedBy joinedBy decimal digits lentReportOf lentUtilizationOf lentVerdict lentMember lentBeam lentColumn lentFieldsHold namedHold barTotals numberAt septetsAt lastSeptet schedule members member markAt kindAt markRises markInRange memberBody fields field fieldsOf known kindOf isPresent holds areaOf memberVerdict fieldHolds beamVerdict columnVerdict meshVerdict beamConsistent flangeFits compressionFits depthFits beamBars beamRatio columnConsistent columnBars meshConsistent barCount memberAt beamAt columnAt meshAt beamOutcome sectionOutcome fromDepth fromBending fromShear fromSpacing fromLeastLinks fromStress fromWidth fromDeflection sectionOf concreteOf steelOf fyvOf area sumD sumE groupArea groupDiameters groupSquares leastSteel compressionDepth compressionYields yieldedCapacity coupleCapacity bendingCapacity concreteShear linkShear shearCapacity shearAbove linkSpacing leastLinks spacingLimit stressHolds steelStress stiffening meanStress crackSpacing widthOf σ q crackWidth widthLimit flexibility curvature shortTerm longTerm deflectionOf deflection spanDivisor deflectionHolds columnOutcome linksOutcome slendernessOutcome axialOutcome steelFits linksFit slendernessFits axialCapacity stability interval interpolated concreteArea squashLoad point meshOutcome lapOutcome anchorageLength lapLength requiredLap tensionLap basicLength multiple up down clamp beamUtilization columnUtilization meshUtilization overFigure overLimit ratio deflectionLimit quotient ofInt div round lt
 table =
     record {
       beam-1 = refl;
@@ -99,6 +103,18 @@ table =
       works-lap-short = refl;
       works-stacked = refl;
       works-not-at-30 = refl;
+      beam-numbers = refl;
+      column-numbers = refl;
+      mesh-numbers = refl;
+      written-three = refl;
+      written-unread = refl;
+      written-none = refl;
+      mark-again = refl;
+      mark-before-kind = refl;
+      kind-nine = refl;
+      file-fits = refl;
+      file-too-long = refl;
+      mark-before-room = refl;
       totals = refl;
       totals-above = refl;
       utilization-1 = refl;

@@ -1,4 +1,4 @@
--- The three members of document 01's printed schedule: by their fields, as a caller builds them, and as a schedule's bytes; three whose fields are numbered, to show which stands where; a mesh of family 2.
+-- The three members of document 01's printed schedule: by their fields, as a caller builds them, as a schedule's bytes and as words; three whose fields are numbered, to show which stands where; a mesh of family 2.
 use Prim.Native.Nat.{ℕ, _-_}
 use mathlib.Core.List.{List, [], _∷_, _++_}
 use lib.ListN.{length, replicate}
@@ -181,5 +181,29 @@ abbrev pub meshBytes : ℕ → List ℕ
 meshBytes mark = mark ∷ 3 ∷ 1 ∷ 30 ∷ 10 ∷ 1 ∷ 0 ∷ 0 ∷ 3 ∷ 1 ∷ 0 ∷ 142 ∷ 2 ∷ 222 ∷ 2 ∷ []
 
 -- the printed schedule with the steel of its column, of code 1
-abbrev pub scheduleBytes : ℕ → List ℕ
-scheduleBytes steel = 3 ∷ (beamBytes ++ (columnBytes steel ++ meshBytes 3))
+abbrev pub printedBytes : ℕ → List ℕ
+printedBytes steel = 3 ∷ (beamBytes ++ (columnBytes steel ++ meshBytes 3))
+
+-- ---- As words that a caller lends: mark, kind, 40 slots. `past` stands in each slot that has no effect.
+
+-- the groups past the first of a list
+abbrev threePast : ℕ → List ℕ
+threePast past = past ∷ past ∷ past ∷ past ∷ past ∷ past ∷ []
+
+abbrev pub beamWords : ℕ → List ℕ
+beamWords past =
+    1 ∷ 1 ∷ 250 ∷ 500 ∷ 250 ∷ 0 ∷ 40 ∷ 0 ∷ 30 ∷ 1
+    ∷ 1 ∷ 20 ∷ 4 ∷ (threePast past
+    ++ (0 ∷ past ∷ past ∷ (threePast past
+    ++ (8 ∷ 2 ∷ 200 ∷ 1 ∷ 30 ∷ 6000 ∷ 150000 ∷ 90000 ∷ 120000 ∷ 1 ∷ 0 ∷ past ∷ past ∷ past ∷ []))))
+
+abbrev pub columnWords : ℕ → List ℕ
+columnWords past = 2 ∷ 2 ∷ 400 ∷ 400 ∷ 30 ∷ 1 ∷ 1 ∷ 20 ∷ 8 ∷ (threePast past ++ (8 ∷ 250 ∷ 4000 ∷ 2500000 ∷ replicate 23 past))
+
+-- with its mark
+abbrev pub meshWords : ℕ → ℕ → List ℕ
+meshWords mark past = mark ∷ 3 ∷ 1 ∷ 30 ∷ 10 ∷ 1 ∷ 0 ∷ 0 ∷ 3 ∷ 1 ∷ 0 ∷ 270 ∷ 350 ∷ replicate 29 past
+
+-- the printed schedule
+abbrev pub printedWords : ℕ → List ℕ
+printedWords past = beamWords past ++ (columnWords past ++ meshWords 3 past)

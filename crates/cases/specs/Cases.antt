@@ -5,12 +5,13 @@ use Prim.Native.String.{String, [] as []ₛ, _∷_ as _∷ₛ_}
 use mathlib.Core.Path.{_≡_}
 use mathlib.Core.Bool.{true, false}
 use mathlib.Core.List.{List, [], _∷_, _++_}
+use lib.ListN.{replicate}
 use lib.IntN.{negsuc}
 use lib.Ieee.{fin}
 use Rattle.text.specs.Text.{valueOf, wordOf, lineOf}
 use Rattle.outcome.specs.declared.Figure.the-variants.{Reached, Unreached}
 use Rattle.line.specs.ParsedLine.{parseLine}
-use Rattle.question.specs.declared.Question.the-variants.{Field}
+use Rattle.question.specs.declared.Question.the-variants.{Mark, Kind, Field}
 use Rattle.deflection.specs.Steps.{spanDivisor}
 use Rattle.stability.specs.Steps.{stability}
 use Rattle.ratio.specs.declared.Utilization.{Utilization}
@@ -21,6 +22,9 @@ use Rattle.question.specs.Reading.{got, no, refusal}
 use Rattle.schedule.specs.Schedule.{schedule}
 use Rattle.report_text.specs.ReportText.{memberText}
 use Rattle.lent_member.specs.Lent.{lentMember}
+use Rattle.encoding.specs.ScheduleBytes.{memberNumbers}
+use Rattle.text_answer.specs.Printed.{answered}
+use Rattle.writer.specs.Written.{fileOf, fileTooLong}
 use Rattle.totals.specs.Totals.{barTotals}
 use Rattle.koxaltes.specs.Entries.{lentReportOf}
 use Rattle.koxaltes.specs.UtilizationEntry.{lentUtilizationOf}
@@ -42,7 +46,9 @@ use Rattle.cases.specs.CaseMembers.{
   placedMesh,
   meshPlaced,
   meshBytes,
-  scheduleBytes,
+  printedBytes,
+  meshWords,
+  printedWords,
 }
 
 -- the bytes of a text in ASCII
@@ -127,9 +133,9 @@ pub record Table : Type 0 where
   pub limit-7000 : 28 * spanDivisor 7000 0 ≡ 7000
   pub limit-9000 : 36 * spanDivisor 9000 0 ≡ 9000
   -- schedules
-  pub schedule-read : schedule (scheduleBytes 1) ≡ got (beam₁ 200 120000 ∷ column₂ 4000 2500000 ∷ mesh₃ 270 350 ∷ [])
-  pub schedule-printed : outputOf (scheduleBytes 1) ≡ printed
-  pub steel-three : outputOf (scheduleBytes 3) ≡ bytes "refused 7 member 2\n"
+  pub schedule-read : schedule (printedBytes 1) ≡ got (beam₁ 200 120000 ∷ column₂ 4000 2500000 ∷ mesh₃ 270 350 ∷ [])
+  pub schedule-printed : outputOf (printedBytes 1) ≡ printed
+  pub steel-three : outputOf (printedBytes 3) ≡ bytes "refused 7 member 2\n"
   pub no-members : outputOf (0 ∷ []) ≡ bytes "members 0\n"
   pub empty-file : outputOf [] ≡ bytes "refused 2 member 0\n"
   pub all-ones : outputOf (255 ∷ 255 ∷ 255 ∷ 255 ∷ 255 ∷ 255 ∷ []) ≡ bytes "refused 3 member 0\n"
@@ -179,6 +185,25 @@ pub record Table : Type 0 where
   pub works-lap-short : lentReportOf (builtMesh₄ 25 2 480 623) [] [] ≡ got (bytes "4 5.3.7 480 624 - -\n")
   pub works-stacked : lentReportOf (builtMesh₄ 25 1 480 442) [] [] ≡ got (bytes "4 OK 480 442 - -\n")
   pub works-not-at-30 : lentReportOf (builtMesh₄ 30 2 430 559) [] [] ≡ got (bytes "4 OK 430 559 - -\n")
+  -- members written: which field stands where, each list after its count
+  pub beam-numbers :
+      memberNumbers (beamPlaced (bars 1 6) (bars 3 10 ++ bars 4 12)) ≡
+      9 ∷ 1 ∷ 100 ∷ 101 ∷ 102 ∷ 103 ∷ 104 ∷ 105 ∷ 106 ∷ 107 ∷ 1 ∷ 6 ∷ 1 ∷ 2 ∷ 10 ∷ 3 ∷ 12 ∷ 4
+      ∷ 110 ∷ 111 ∷ 112 ∷ 113 ∷ 114 ∷ 115 ∷ 116 ∷ 117 ∷ 118 ∷ 119 ∷ 120 ∷ []
+  pub column-numbers : memberNumbers (columnPlaced (bars 1 6 ++ bars 2 8)) ≡ 9 ∷ 2 ∷ 100 ∷ 101 ∷ 102 ∷ 103 ∷ 2 ∷ 6 ∷ 1 ∷ 8 ∷ 2 ∷ 105 ∷ 106 ∷ 107 ∷ 108 ∷ []
+  pub mesh-numbers : memberNumbers meshPlaced ≡ 9 ∷ 3 ∷ 100 ∷ 101 ∷ 102 ∷ 103 ∷ 104 ∷ 105 ∷ 106 ∷ 107 ∷ 108 ∷ 109 ∷ 110 ∷ []
+  -- document 01's three held as words, the slots past a count 0 or any other number; words left over; no members
+  pub written-three : fileOf (printedWords 0) ≡ got (printedBytes 1)
+  pub written-unread : fileOf (printedWords 4294967295 ++ (7 ∷ 8 ∷ 9 ∷ [])) ≡ got (printedBytes 1)
+  pub written-none : fileOf [] ≡ got (0 ∷ [])
+  -- marks that do not rise, one of them before an unknown kind; an unknown kind
+  pub mark-again : fileOf (meshWords 1 0 ++ meshWords 1 0) ≡ no (refusal Mark 2)
+  pub mark-before-kind : fileOf (meshWords 2 0 ++ (1 ∷ 9 ∷ replicate 40 0)) ≡ no (refusal Mark 2)
+  pub kind-nine : fileOf (meshWords 1 0 ++ (2 ∷ 9 ∷ replicate 40 0)) ≡ no (refusal Kind 2)
+  -- room for document 01's file of 72 bytes, and for one byte less; a member's question before it
+  pub file-fits : answered fileTooLong (fileOf (printedWords 0)) 72 ≡ record { question = 0; member = 0; length = 72 }
+  pub file-too-long : answered fileTooLong (fileOf (printedWords 0)) 71 ≡ record { question = 13; member = 0; length = 0 }
+  pub mark-before-room : answered fileTooLong (fileOf (meshWords 0 0)) 0 ≡ record { question = 5; member = 1; length = 0 }
   -- totals of a list: S in tenths of mm², D and E; and a count above the list
   pub totals : barTotals 1 (bars 4 20) ≡ record { question = 0; member = 0; bars = 4; area = 12568; diameters = 80; squares = 1600 }
   pub totals-above : barTotals 2 (bars 4 20) ≡ record { question = 7; member = 1; bars = 0; area = 0; diameters = 0; squares = 0 }

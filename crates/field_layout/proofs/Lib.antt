@@ -1,2 +1,3 @@
 mod Made
 pub mod Held
+pub mod Part

@@ -1,5 +1,5 @@
 -- The fields of a member by name: slot i holds field i of its kind's table (crate `field_table`).
-use Prim.Native.Nat.{ℕ, _+_}
+use Prim.Native.Nat.{ℕ, zero, suc, _+_}
 use mathlib.Core.List.{List, [], _∷_}
 use lib.ListN.{getD, take}
 use Rattle.bars.specs.declared.Group.{Group}
@@ -11,9 +11,19 @@ use Rattle.member.specs.Member.{Beam, Column, Mesh, Member, beam, column, mesh}
 abbrev pub slot : List ℕ → ℕ → ℕ
 slot v i = getD v i 0
 
+-- n numbers from place i on; 0 past the end
+abbrev pub part : List ℕ → ℕ → ℕ → List ℕ
+part v i zero = []
+part v i (suc n) = slot v i ∷ part v (suc i) n
+
 -- the group whose diameter stands in slot i
 abbrev pub group : List ℕ → ℕ → Group
 group v i = record { diameter = slot v i; bars = slot v (i + 1) }
+
+-- groups of bars as numbers: diameter and number of bars of each
+abbrev pub groupNumbers : List Group → List ℕ
+groupNumbers [] = []
+groupNumbers (g ∷ gs) = g .diameter ∷ g .bars ∷ groupNumbers gs
 
 -- the groups of the list whose count stands in slot k: nothing past the count is read
 abbrev pub groupsAt : List ℕ → ℕ → List Group

@@ -9,7 +9,7 @@ use lib.ListN.{length, getD}
 use Rattle.varint.specs.declared.Number.{Number}
 use Rattle.varint.specs.declared.Number.the-variants.{Value, Refused}
 use Rattle.varint.specs.Varint.{numberAt, septetsAt}
-use Rattle.varint.proofs.Septets.{Cases, groups-inv, refused-no-value, last-septet-at, group-follows, only-group, from-second, from-third, weight}
+use Rattle.varint.proofs.Septets.{Cases, septets-inv, refused-no-value, last-septet-at, septet-follows, only-septet, from-second, from-third, weight}
 use Rattle.question.specs.Reading.{Got}
 use Rattle.field_validator.specs.Placed.{ofNumber}
 
@@ -29,7 +29,7 @@ module _ (s : List ℕ) (left p w v : ℕ) (ok : Got (ofNumber (septetsAt (suc l
   number = was-value _ ok
 
   group : Cases left s p w v (number .value) (number .next)
-  group = groups-inv left s p w v (number .value) (number .next) (number .was)
+  group = septets-inv left s p w v (number .value) (number .next) (number .was)
 
   pub there : p < length s
   there = group .0
@@ -54,7 +54,7 @@ module _ (s : List ℕ) (at : ℕ) (ok : Got (ofNumber (numberAt s at))) where
   module _ (a : ℕ) (q : a ≡ getD s at 0) where
     pub first-ends : a < 128 → numberAt s at ≡ Value a (at + 1)
     unfolding numberAt
-    first-ends t = last-septet-at s 5 at 1 0 (omega arith) a q first-there t ∙ only-group a (at + 1) t
+    first-ends t = last-septet-at s 5 at 1 0 (omega arith) a q first-there t ∙ only-septet a (at + 1) t
 
     module _ (t : 128 ≤ a) where
       second : Got (ofNumber (septetsAt 4 s (at + 1) 128 (a - 128)))
@@ -91,7 +91,7 @@ module _ (s : List ℕ) (at p w v b : ℕ) (q : b ≡ getD s p 0) (t : 128 ≤ b
   pub turn : septetsAt (suc (at + 2 - p)) s p w v ≡ septetsAt (suc (at + 2 - (p + 1))) s (p + 1) (w * 128) (v + (b - 128) * w)
   turn =
       let l : suc (at + 2 - (p + 1)) ≡ suc (at + 2 - p) - 1 = omega (arith, another) in
-      rw l (group-follows s (suc (at + 2 - p)) p w v (omega arith) b q (there s (at + 2 - p) p w v ok) t)
+      rw l (septet-follows s (suc (at + 2 - p)) p w v (omega arith) b q (there s (at + 2 - p) p w v ok) t)
 
 -- the weight of the group at p, with p - at groups below it from the third on
 pub weight-at : (at p : ℕ) → p ≤ at + 2 → 128 ^ (p - at + 2) ≤ 128 ^ 4

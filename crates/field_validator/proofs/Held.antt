@@ -13,7 +13,7 @@ use Rattle.varint.specs.declared.Number.the-variants.{Value}
 use Rattle.varint.specs.Varint.{numberAt}
 use Rattle.field_domain.specs.declared.Domain.{Domain}
 use Rattle.field_domain.specs.Domain.{presence, isPresent, holds, fieldHolds}
-use Rattle.field_domain.proofs.Present.{countBelow, present-same}
+use Rattle.field_domain.proofs.Present.{countBelow, anySlot, present-same}
 use Rattle.field_table.specs.declared.MemberKind.{MemberKind}
 use Rattle.field_table.specs.declared.MemberKind.the-variants.{Beam, Column, Mesh}
 use Rattle.field_table.specs.Fields.{fieldsOf}
@@ -41,7 +41,7 @@ on-field P d s p i v absent stored refused =
 
 unfoldable pub ordered : ℕ → List Domain → Bool
 ordered i [] = true
-ordered i (d ∷ ds) = countBelow (presence d) i && ordered (i + 1) ds
+ordered i (d ∷ ds) = countBelow anySlot (presence d) i && ordered (i + 1) ds
 
 -- ---- Held.
 
@@ -65,7 +65,7 @@ module _ (s w : List ℕ) (q : ℕ) where
       (λ a e.
       let h = held ds p (i + 1) v (b .1) (omega arith) e in
       record {
-        holds-all = rw (present-same d i v w (b .0) (λ j k. h .kept j (omega arith)), a) (h .holds-all);
+        holds-all = rw (present-same anySlot d i v w (b .0) (λ j _ k. h .kept j (omega arith)), a) (h .holds-all);
         kept = λ j k. h .kept j (omega arith);
       })
       (λ x next _ _ t e.
@@ -78,8 +78,8 @@ module _ (s w : List ℕ) (q : ℕ) where
       (λ r e. absurd (let z : _≡_ {A = ℕ} 0 1 = cc in omega arith))
       u
     where
-      b : (countBelow (presence d) i ≡ true) × (ordered (i + 1) ds ≡ true)
-      b = both-true (countBelow (presence d) i) (ordered (i + 1) ds) o
+      b : (countBelow anySlot (presence d) i ≡ true) × (ordered (i + 1) ds ≡ true)
+      b = both-true (countBelow anySlot (presence d) i) (ordered (i + 1) ds) o
 
 pub in-order : (kind : MemberKind) → ordered 0 (fieldsOf kind) ≡ true
 unfolding ordered fieldsOf

@@ -16,7 +16,7 @@ use Rattle.varint.specs.Varint.{numberAt}
 use Rattle.field_domain.specs.declared.Domain.{Domain}
 use Rattle.field_domain.specs.declared.Domain.the-variants.{Range, GroupDiameter, GroupBars}
 use Rattle.field_domain.specs.Domain.{presence, isAlways, isPresent, holds, fieldHolds}
-use Rattle.field_domain.proofs.Present.{countBelow, present-same, always-present}
+use Rattle.field_domain.proofs.Present.{countBelow, anySlot, present-same, present-holds, always-present}
 use Rattle.field_table.specs.declared.MemberKind.{MemberKind}
 use Rattle.field_table.specs.Fields.{tensionCount, compressionCount, beamLinks, columnCount, columnLinks, groups, beamFields, columnFields, meshFields, fieldsOf}
 use Rattle.field_check.specs.FieldCheck.{fieldsHold}
@@ -43,7 +43,7 @@ on-stored P s p i v kept refused = cases (numberAt s p) refl
     cases (Refused q) e = refused q
 
 -- a field is not there, is stored, or its number is refused
-on-taken : (P : Reading Stopped (Placed (List ℕ)) → Type 0) (d : Domain) (s : List ℕ) (p i : ℕ) (v : List ℕ)
+pub on-taken : (P : Reading Stopped (Placed (List ℕ)) → Type 0) (d : Domain) (s : List ℕ) (p i : ℕ) (v : List ℕ)
     → (isPresent d v ≡ false → P (got (placed v p)))
     → ((x next : ℕ) → isPresent d v ≡ true → numberAt s p ≡ Value x next → P (got (placed (set v i x) next)))
     → ((q : Question) → P (no (stopped q v))) → P (if isPresent d v then stored s p i v else got (placed v p))
@@ -57,7 +57,7 @@ got-is e = cc
 
 module _ (s w : List ℕ) (q : ℕ) where
   -- slots below the first one are kept
-  kept : (fs : List Domain) (p i : ℕ) (v : List ℕ) → taken fs s p i v ≡ got (placed w q) → (j : ℕ) → j < i → getD w j 0 ≡ getD v j 0
+  pub kept : (fs : List Domain) (p i : ℕ) (v : List ℕ) → taken fs s p i v ≡ got (placed w q) → (j : ℕ) → j < i → getD w j 0 ≡ getD v j 0
   unfolding taken
   kept [] p i v e =
       λ j h. ap (λ (x : List ℕ). getD x j 0) (sym (ap (λ (x : Placed (List ℕ)). x .value) (got-is e)))
@@ -79,20 +79,17 @@ module _ (s w : List ℕ) (q : ℕ) where
       (λ x next a n e.
       let k = kept ds next (i + 1) (set v i x) e in
       let at : getD w i 0 ≡ x = k i (omega arith) ∙ getD-set-same v i x 0 (omega arith) in
-      let same : isPresent d w ≡ true = present-same d i v w (b .0) (λ j g. k j (omega arith) ∙ getD-set-other v i j x 0 (λ f. omega arith)) ∙ a in
-      let held : holds d x ≡ true = rw (← at) (if-held same (t .0)) in
+      let same : isPresent d w ≡ true = present-same anySlot d i v w (b .0) (λ j _ g. k j (omega arith) ∙ getD-set-other v i j x 0 (λ f. omega arith)) ∙ a in
+      let held : holds d x ≡ true = rw (← at) (present-holds d i w same (t .0)) in
       rw (a, n, held) (taken-read ds next (i + 1) (set v i x) (b .1) (rw (length-set v i x) (omega arith)) e (t .1)))
       (λ r e. absurd (let z : _≡_ {A = ℕ} 0 1 = cc in omega arith))
       u
     where
-      b : (countBelow (presence d) i ≡ true) × (ordered (i + 1) ds ≡ true)
-      b = both-true (countBelow (presence d) i) (ordered (i + 1) ds) o
+      b : (countBelow anySlot (presence d) i ≡ true) × (ordered (i + 1) ds ≡ true)
+      b = both-true (countBelow anySlot (presence d) i) (ordered (i + 1) ds) o
 
       t : (fieldHolds d i w ≡ true) × (fieldsHold ds (i + 1) w ≡ true)
       t = both-true (fieldHolds d i w) (fieldsHold ds (i + 1) w) h
-
-      if-held : isPresent d w ≡ true → fieldHolds d i w ≡ true → holds d (getD w i 0) ≡ true
-      if-held a f = rw (← f, a)
 
   -- fields that are read are taken
   read-taken : (fs : List Domain) (p i : ℕ) (v : List ℕ) → fields fs s p i v ≡ got (placed w q) → taken fs s p i v ≡ got (placed w q)

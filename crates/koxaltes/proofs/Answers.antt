@@ -1,4 +1,4 @@
--- From the answers of crate `report` to those that a caller gets.
+-- From the answers of crates `report` and `writer` to those that a caller gets.
 use Prim.Native.Nat.{ℕ}
 use mathlib.Core.Path.{_≡_, refl, ap, subst, _∙_}
 use mathlib.Core.List.{List}
@@ -19,19 +19,29 @@ use Rattle.lent_member.specs.Lent.{lentMember, firstCount, secondCount}
 use Rattle.lent_member.specs.LentSlots.{builtOf}
 use Rattle.lent_member.proofs.InSlots.{slots-again, copied, slots, lent-verdict, lent-member}
 use Rattle.text_answer.specs.declared.TextAnswer.{TextAnswer}
-use Rattle.text_answer.specs.Printed.{numbersOf, answered}
+use Rattle.text_answer.specs.Printed.{numbersOf, textTooLong, answered}
 use Rattle.report_text.specs.ReportText.{memberText}
 use Rattle.report.specs.Report.{lineOrNo, memberReportOf}
 use Rattle.report.specs.ReportClaim.{Reported, MemberReported}
+use Rattle.writer.specs.Written.{ScheduleWritten}
 use Rattle.answer_record.specs.declared.AnswerRecord.{AnswerRecord}
 use Rattle.answer_record.specs.AnswerRecord.{answerRecord}
-use Rattle.koxaltes.specs.Entries.{lentReportOf, ReportEntry, MemberEntry}
+use Rattle.koxaltes.specs.Entries.{lentReportOf, ReportEntry, MemberEntry, WriteEntry}
 
 pub report-entry : {src before after : List ℕ} {a : TextAnswer} {r : AnswerRecord} → Reported src before after a → r ≡ answerRecord (numbersOf a) → ReportEntry src before after r
 report-entry p e = record {
   answer-is = e ∙ ap answerRecord (p .answer-is);
   buffer-is = p .buffer-is;
   claim = λ ms s z. rw e (p .claim ms s (rw e at z));
+}
+
+pub write-entry : {words before after : List ℕ} {a : TextAnswer} {r : AnswerRecord} → ScheduleWritten words before after a → r ≡ answerRecord (numbersOf a) → WriteEntry words before after r
+write-entry p e = record {
+  answer-is = e ∙ ap answerRecord (p .answer-is);
+  buffer-is = p .buffer-is;
+  claim = λ ms s z. rw e (p .claim ms s (rw e at z));
+  each-only = p .each-only;
+  never-1 = λ z. p .never-1 (rw e at z);
 }
 
 pub member-entry : {x y : Built} {before after : List ℕ} {a : TextAnswer} {r : AnswerRecord} → x ≡ y → MemberReported x before after a → r ≡ answerRecord (numbersOf a) → MemberEntry (memberReportOf y) (memberOf y) before after r
@@ -49,11 +59,11 @@ module _ (x : Lent) (first second : List Group) where
       of-verdict Accepted e = ap (λ (m : Member). got (memberText m)) (lent-member x first second e)
       of-verdict (Refused q) e = refl
 
-  accepted : (room : ℕ) {r : AnswerRecord} → r ≡ answerRecord (answered 1 (memberReportOf (copied x first second)) room) → r .question ≡ 0 → memberOf (copied x first second) ≡ lentMember x first second
+  accepted : (room : ℕ) {r : AnswerRecord} → r ≡ answerRecord (answered (textTooLong 1) (memberReportOf (copied x first second)) room) → r .question ≡ 0 → memberOf (copied x first second) ≡ lentMember x first second
   unfolding memberReportOf
   accepted room e z = lent-member x first second (of-verdict (builtVerdict (x .mark) (x .kind) (slots x first second)) (rw e at z))
     where
-      of-verdict : (w : Verdict) → answerRecord (answered 1 (lineOrNo w (memberOf (copied x first second))) room) .question ≡ 0 → w ≡ Accepted
+      of-verdict : (w : Verdict) → answerRecord (answered (textTooLong 1) (lineOrNo w (memberOf (copied x first second))) room) .question ≡ 0 → w ≡ Accepted
       of-verdict Accepted h = refl
       of-verdict (Refused q) h = absurd (numbered q h)
 

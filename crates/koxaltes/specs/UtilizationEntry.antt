@@ -1,4 +1,4 @@
--- The whole promise of `koxaltes_member_utilization`: what `utilization_of` promises (crate `utilization`), said of that record.
+-- The whole promise of `koxaltes_member_utilization`: what `utilization_of` promises (crate `utilization`), said of the struct that the caller gets.
 use mathlib.Core.Path.{_≡_}
 use mathlib.Core.Bool.{true}
 use mathlib.Core.List.{List}

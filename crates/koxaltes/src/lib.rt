@@ -6,7 +6,7 @@ ghost use Rattle.lent_member.specs.LentSlots.{builtOf};
 ghost use Rattle.totals.specs.Totals.{barTotals};
 ghost use Rattle.report.specs.Report.{memberReportOf};
 ghost use Rattle.utilization.specs.Utilized.{utilizationAnswer};
-ghost use Rattle.koxaltes.specs.Entries.{lentReportOf, ReportEntry, MemberEntry};
+ghost use Rattle.koxaltes.specs.Entries.{lentReportOf, ReportEntry, MemberEntry, WriteEntry};
 ghost use Rattle.koxaltes.specs.UtilizationEntry.{lentUtilizationOf, UtilizationEntry};
 use answer_record::AnswerRecord;
 use answer_record::UtilizationRecord;
@@ -23,6 +23,7 @@ use report::report;
 use totals::BarTotals;
 use totals::copied_totals;
 use utilization::utilization_of;
+use writer::write_schedule;
 
 // The report of a schedule's bytes.
 #[no_mangle]
@@ -38,7 +39,7 @@ fn member_answer(x: Lent, first: [Group; 4], second: [Group; 4], out: &mut [u8])
     answer_record(member_report(built_from(x, first, second), out))
 }
 
-// The line of a member that a caller built: its groups, tension and compression of a beam, are lent as two lists of records.
+// The line of a member that a caller built: its groups, tension and compression of a beam, are lent as two lists of groups.
 // A column has the first list only, a mesh none.
 #[no_mangle]
 pub extern "C" fn koxaltes_member_report(
@@ -85,4 +86,13 @@ pub extern "C" fn koxaltes_bar_totals(groups: &[Group], count: usize) -> BarTota
     ensures { λ r. ⌜ r ≡ barTotals count (now (groups .entry)) ⌝ }
 {
     copied_totals(first_groups(groups, count), count)
+}
+
+// The file of a schedule held as words, 42 to a member: mark, kind, and 40 slots with its fields in the order of a schedule, four groups to
+// each list. Slots past a count, and words past the last whole member, have no effect.
+#[no_mangle]
+pub extern "C" fn koxaltes_write_schedule(words: &[u32], out: &mut [u8]) -> AnswerRecord
+    ensures { λ r. ⌜ WriteEntry (now (words .entry)) (now (out .entry)) (now (out .exit)) r ⌝ }
+{
+    answer_record(write_schedule(words, out))
 }

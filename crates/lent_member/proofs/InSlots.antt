@@ -27,7 +27,7 @@ use Rattle.verdict.specs.declared.Built.{Built}
 use Rattle.question.specs.declared.Verdict.{Verdict}
 use Rattle.question.specs.declared.Verdict.the-variants.{Accepted}
 use Rattle.verdict.specs.Verdict.{askVerdict, markInRange, verdictOf, memberVerdict, fieldsVerdict, builtVerdict}
-use Rattle.verdict.proofs.Accepted.{asked-yes}
+use Rattle.verdict.proofs.Accepted.{built-passed}
 use Rattle.lent_groups.specs.LentGroups.{groupHolds, groupsHold, namedHold}
 use Rattle.lent_groups.specs.CopiedGroups.{noGroup, firstFour}
 use Rattle.lent_groups.proofs.Named.{named-groups, named-hold}
@@ -218,9 +218,6 @@ module _ (x : Lent) (first second : List Group) where
 
   -- an accepted member is the one in the slots
   pub lent-member : builtVerdict (x .mark) (x .kind) slots ≡ Accepted → memberAt (x .mark) (kindOf (x .kind)) slots ≡ lentMember x first second
-  unfolding builtVerdict fieldsVerdict lentMember
+  unfolding lentMember
   lent-member a =
-      let m = asked-yes Mark (markInRange (x .mark)) _ a in
-      let k = asked-yes Kind (known (x .kind)) _ (m .1) in
-      let f = asked-yes Field (fieldsHold (fieldsOf (kindOf (x .kind))) 0 slots) _ (k .1) in
-      member-is v first second (x .mark) (kindOf (x .kind)) (sym (fields-hold v first second (kindOf (x .kind))) ∙ f .0)
+      member-is v first second (x .mark) (kindOf (x .kind)) (sym (fields-hold v first second (kindOf (x .kind))) ∙ built-passed (x .mark) (x .kind) slots a .held)

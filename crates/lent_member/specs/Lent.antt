@@ -1,4 +1,4 @@
--- A member that a caller built, its groups of bars lent beside it as lists of records.
+-- A member that a caller built, its groups of bars lent beside it as lists.
 -- It is its mark, its kind, and the fields of its kind in the order of document 01 without the groups; the lists are tension and compression of a beam, the first alone of a column, none of a mesh.
 use Prim.Native.Nat.{ℕ}
 use mathlib.Core.Bool.{Bool, _&&_}

@@ -1,33 +1,23 @@
 -- The slots (crate `field_layout`) into which the code puts a lent member: the terms of its inner contracts.
-use Prim.Native.Nat.{ℕ, zero, suc}
-use mathlib.Core.List.{List, [], _∷_, _++_}
+use Prim.Native.Nat.{ℕ}
+use mathlib.Core.List.{List, _++_}
 use lib.ListN.{length, drop, replicate}
 use Rattle.bars.specs.declared.Group.{Group}
 use Rattle.field_table.specs.declared.MemberKind.{MemberKind}
 use Rattle.field_table.specs.declared.MemberKind.the-variants as kinds
 use Rattle.field_table.specs.Fields.{beamLinks, columnLinks, beamFields, columnFields, meshFields, kindOf}
-use Rattle.field_layout.specs.Layout.{slot}
+use Rattle.field_layout.specs.Layout.{part, groupNumbers}
 use Rattle.verdict.specs.declared.Built.{Built}
 use Rattle.lent_groups.specs.CopiedGroups.{firstFour}
 use Rattle.lent_member.specs.declared.Lent.{Lent}
 use Rattle.lent_member.specs.Lent.{compressionCountGiven, beamLinksGiven, columnLinksGiven}
 
--- groups as fields: the diameter and the bars of each
-abbrev pub flat : List Group → List ℕ
-flat [] = []
-flat (g ∷ gs) = g .diameter ∷ g .bars ∷ flat gs
-
--- the n fields from field i on
-abbrev pub part : List ℕ → ℕ → ℕ → List ℕ
-part v i zero = []
-part v i (suc n) = slot v i ∷ part v (suc i) n
-
 -- the fields of a kind with its groups, each list after its count
 abbrev pub beamSlots : List ℕ → List Group → List Group → List ℕ
-beamSlots v first second = part v 0 9 ++ (flat (firstFour first) ++ (part v compressionCountGiven 1 ++ (flat (firstFour second) ++ part v beamLinksGiven (length (drop beamLinks beamFields)))))
+beamSlots v first second = part v 0 9 ++ (groupNumbers (firstFour first) ++ (part v compressionCountGiven 1 ++ (groupNumbers (firstFour second) ++ part v beamLinksGiven (length (drop beamLinks beamFields)))))
 
 abbrev pub columnSlots : List ℕ → List Group → List ℕ
-columnSlots v first = part v 0 5 ++ (flat (firstFour first) ++ part v columnLinksGiven (length (drop columnLinks columnFields)))
+columnSlots v first = part v 0 5 ++ (groupNumbers (firstFour first) ++ part v columnLinksGiven (length (drop columnLinks columnFields)))
 
 abbrev pub meshSlots : List ℕ → List ℕ
 meshSlots v = part v 0 (length meshFields)

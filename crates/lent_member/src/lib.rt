@@ -1,12 +1,13 @@
-// A built member whose groups of bars are lent beside it as lists of records. Lent is document 01's word for borrowed: the caller keeps the list.
+// A built member whose groups of bars are lent beside it as lists. Lent is document 01's word for borrowed: the caller keeps the list.
 ghost use mathlib.Core.Path.{_≡_};
 ghost use Prim.Native.Nat.{_+_, _≤_};
 ghost use lib.ListN.{set};
 ghost use lib.Seq.{sets};
 ghost use Rattle.field_table.specs.Fields.{kindOf};
+ghost use Rattle.field_layout.specs.Layout.{part, groupNumbers};
 ghost use Rattle.lent_groups.specs.CopiedGroups.{firstFour};
 ghost use Rattle.lent_member.specs.Lent.{firstCount, secondCount};
-ghost use Rattle.lent_member.specs.LentSlots.{flat, part, beamSlots, columnSlots, meshSlots, filled, lentSlots, builtOf};
+ghost use Rattle.lent_member.specs.LentSlots.{beamSlots, columnSlots, meshSlots, filled, lentSlots, builtOf};
 use bars::Group;
 use field_check::Slots;
 use field_layout::index;
@@ -104,7 +105,7 @@ fn put_group(t: Slots, at: usize, g: Group) -> Slots
 // The slots from `at` on hold the four groups.
 fn put_groups(t: Slots, at: usize, groups: [Group; 4]) -> Slots
     requires { ⌜ at + 8 ≤ 40 ⌝ }
-    ensures { λ r. ⌜ r .v ≡ sets (t .v) at (flat (firstFour groups)) ⌝ }
+    ensures { λ r. ⌜ r .v ≡ sets (t .v) at (groupNumbers (firstFour groups)) ⌝ }
 {
     let one = put_group(t, at, groups[0]);
     let two = put_group(one, at + 2, groups[1]);

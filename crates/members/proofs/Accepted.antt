@@ -105,6 +105,8 @@ pub record MemberParts (s : List ℕ) (p : ℕ) (x : Placed Built) : Type 0 wher
   pub slots : List ℕ
   pub mark-is : numberAt s p ≡ Value mark after-mark
   pub kind-is : numberAt s after-mark ≡ Value kind after-kind
+  pub is-known : known kind ≡ true
+  pub held : fieldsHold (fieldsOf (kindOf kind)) 0 slots ≡ true
   pub takes : taken (fieldsOf (kindOf kind)) s after-kind 0 empty ≡ got (placed slots (x .next))
   pub member-is : x .value ≡ record { mark = mark; kind = kind; fields = record { v = slots } }
 
@@ -116,14 +118,17 @@ member-parts s p before x e =
     let f = went-on (fields (fieldsOf (kindOf (k .value .value))) s (k .value .next) 0 empty) _ x (k .then) in
     on-verdict (m .value) (k .value) (f .value) (number-was Mark (markRises before) s p (m .value .value) (m .value .next) (m .was))
     (number-was Kind known s (m .value .next) (k .value .value) (k .value .next) (k .was))
+    (passes Kind known s (m .value .next) (k .value .value) (k .value .next) (k .was))
+    (fields-held s (f .value .value) (k .value .next) (f .value .next) (kindOf (k .value .value)) (f .was))
     (fields-taken s (f .value .value) (k .value .next) (f .value .next) (kindOf (k .value .value)) (f .was))
     (memberVerdict (kindOf (k .value .value)) (f .value .value)) (f .then)
   where
     on-verdict : (m k : Placed ℕ) (f : Placed (List ℕ)) → numberAt s p ≡ Value (m .value) (m .next) → numberAt s (m .next) ≡ Value (k .value) (k .next)
+        → known (k .value) ≡ true → fieldsHold (fieldsOf (kindOf (k .value))) 0 (f .value) ≡ true
         → taken (fieldsOf (kindOf (k .value))) s (k .next) 0 empty ≡ got (placed (f .value) (f .next)) → (t : Verdict)
         → passed t (got (placed (record { mark = m .value; kind = k .value; fields = record { v = f .value } }) (f .next))) ≡ got x
         → MemberParts s p x
-    on-verdict m k f a b g verdicts.Accepted e =
+    on-verdict m k f a b c h g verdicts.Accepted e =
         let same : placed (record { mark = m .value; kind = k .value; fields = record { v = f .value } }) (f .next) ≡ x = cc in
         record {
           mark = m .value;
@@ -133,10 +138,12 @@ member-parts s p before x e =
           slots = f .value;
           mark-is = a;
           kind-is = b;
+          is-known = c;
+          held = h;
           takes = g ∙ ap (λ (n : ℕ). got (placed (f .value) n)) (ap (λ (y : Placed Built). y .next) same);
           member-is = sym (ap (λ (y : Placed Built). y .value) same);
         }
-    on-verdict m k f a b g (verdicts.Refused q) e = absurd (no-got e)
+    on-verdict m k f a b c h g (verdicts.Refused q) e = absurd (no-got e)
 
 value-is : (n : Number) (x next y after : ℕ) → n ≡ Value x next → n ≡ Value y after → (x ≡ y) × (next ≡ after)
 value-is n x next y after e f = (cc, cc)

@@ -13,18 +13,17 @@ use Rattle.text.proofs.Put.{put-whole, learnt-length}
 use Rattle.line.specs.Line.{refusalWords, lineText}
 use Rattle.line.proofs.Length.{refusal-short}
 use Rattle.question.specs.declared.Refusal.{Refusal}
-use Rattle.question.specs.declared.Question.the-variants.{Buffer}
 use Rattle.question.specs.Question.{numberOf}
 use Rattle.question.proofs.Numbers.{numbered}
 use Rattle.member.specs.Member.{Member}
-use Rattle.question.specs.Reading.{Reading, got, refusal}
+use Rattle.question.specs.Reading.{Reading, got}
 use Rattle.question.specs.Reading as reading
 use Rattle.schedule.specs.Schedule.{schedule}
 use Rattle.schedule.proofs.Accepted.{schedule-accepted}
 use Rattle.text_answer.specs.declared.TextAnswer.{TextAnswer}
 use Rattle.text_answer.specs.declared.TextAnswer.the-variants.{Written, Refused}
 use Rattle.report_text.specs.ReportText.{reportText}
-use Rattle.text_answer.specs.Printed.{Numbers, numbersOf, askRoom, answered, bufferAfter}
+use Rattle.text_answer.specs.Printed.{Numbers, numbersOf, textTooLong, askRoom, answered, bufferAfter}
 use Rattle.text_answer.specs.Printed.{written as writtenTo, refused as refusedBy}
 use Rattle.report.specs.Report.{reportOf, reportOrNo}
 use Rattle.report.specs.ReportClaim.{Reported}
@@ -68,22 +67,22 @@ same-refusal : (r q : Refusal) → refusedBy r ≡ refusedBy q → refusalText r
 same-refusal r q e = ap₂ (λ (k m : ℕ). lineText (refusalWords k m)) (ap question e) (ap member e)
 
 -- a report that fits is not refused
-no-refusal : (s d : List ℕ) (ms : List Member) (r : Refusal) → schedule s ≡ got ms → length (reportText ms) ≤ length d → refusedBy r ≡ answered 0 (reportOf s) (length d) → ⊥
+no-refusal : (s d : List ℕ) (ms : List Member) (r : Refusal) → schedule s ≡ got ms → length (reportText ms) ≤ length d → refusedBy r ≡ answered (textTooLong 0) (reportOf s) (length d) → ⊥
 unfolding reportOf
 no-refusal s d ms r f h e = numbered (r .question) (ap question (rw (f, le-leb (length (reportText ms)) (length d) h) at e))
 
--- ---- A report or a refusal o.
+-- ---- A report, a file or a refusal o, for a buffer that is too short refused by `full`.
 
 -- what `print_schedule` promises of it
-record Shown (o : Reading Refusal (List ℕ)) (d d′ : List ℕ) (n : ℕ) : Type 0 where
-  put : Put d 0 (shown (askRoom 0 (length d) o)) d′ n
-  whole : 60000 ≤ length d → (n ≡ length (shown o)) × (d′ ≡ shown o ++ drop (length (shown o)) d)
+pub record Shown (full : Refusal) (o : Reading Refusal (List ℕ)) (d d′ : List ℕ) (n : ℕ) : Type 0 where
+  pub put : Put d 0 (shown (askRoom full (length d) o)) d′ n
+  pub whole : 60000 ≤ length d → (n ≡ length (shown o)) × (d′ ≡ shown o ++ drop (length (shown o)) d)
 
-module _ (d d′ : List ℕ) (n : ℕ) where
-  written : (o : Reading Refusal (List ℕ)) → length d < lastPosition → writtenTo n ≡ answered 0 o (length d) → d′ ≡ bufferAfter 0 o d → Shown o d d′ n
+module _ (full : Refusal) (d d′ : List ℕ) (n : ℕ) where
+  pub written : (o : Reading Refusal (List ℕ)) → length d < lastPosition → writtenTo n ≡ answered full o (length d) → d′ ≡ bufferAfter full o d → Shown full o d d′ n
   written (got t) k e f = go (decLe (length t) (length d))
     where
-      go : Dec (length t ≤ length d) → Shown (got t) d d′ n
+      go : Dec (length t ≤ length d) → Shown full (got t) d d′ n
       go (yes h) =
           let l = le-leb (length t) (length d) h in
           let c : n ≡ length t = ap extent (rw l at e) in
@@ -91,19 +90,19 @@ module _ (d d′ : List ℕ) (n : ℕ) where
           record { put = rw l (put-text t d d′ n k h c b); whole = λ _. (c, b) }
       go (no h) =
           let g : length d < length t = omega arith in
-          absurd (numbered Buffer (sym (ap question (rw (lt-leb (length t) (length d) g) at e))))
+          absurd (numbered (full .question) (sym (ap question (rw (lt-leb (length t) (length d) g) at e))))
   written (reading.no r) k e f = absurd (numbered (r .question) (sym (ap question e)))
 
-  refused : (o : Reading Refusal (List ℕ)) (r : Refusal) (d₁ : List ℕ) → ((t : List ℕ) → o ≡ got t → length t ≤ 60000) → length (refusalText r) ≤ 60000 →
-      refusedBy r ≡ answered 0 o (length d) → d₁ ≡ bufferAfter 0 o d → Put d₁ 0 (refusalText r) d′ n → Shown o d d′ n
+  pub refused : (o : Reading Refusal (List ℕ)) (r : Refusal) (d₁ : List ℕ) → ((t : List ℕ) → o ≡ got t → length t ≤ 60000) → length (refusalText r) ≤ 60000 →
+      refusedBy r ≡ answered full o (length d) → d₁ ≡ bufferAfter full o d → Put d₁ 0 (refusalText r) d′ n → Shown full o d d′ n
   refused (got t) r d₁ s u e f w = go (decLe (length t) (length d))
     where
-      go : Dec (length t ≤ length d) → Shown (got t) d d′ n
+      go : Dec (length t ≤ length d) → Shown full (got t) d d′ n
       go (yes h) = absurd (numbered (r .question) (ap question (rw (le-leb (length t) (length d) h) at e)))
       go (no h) =
           let g : length d < length t = omega arith in
           let l = lt-leb (length t) (length d) g in
-          let same = same-refusal r (refusal Buffer 0) (rw l at e) in
+          let same = same-refusal r full (rw l at e) in
           let b : d₁ ≡ d = rw l at f in
           record { put = rw l (rw (same, b) at w); whole = λ k. absurd (omega (arith, s t refl)) }
   refused (reading.no q) r d₁ s u e f w =
@@ -118,7 +117,7 @@ module _ (s d d′ : List ℕ) (n : ℕ) where
   pub was-written : (a : TextAnswer) → a ≡ Written n → length d < lastPosition → Reported s d d′ a → PrintedSchedule s d d′ n
   unfolding outputOf
   was-written a e k p =
-      let o = written d d′ n (reportOf s) k (ap numbersOf (sym e) ∙ p .answer-is) (p .buffer-is) in
+      let o = written (textTooLong 0) d d′ n (reportOf s) k (ap numbersOf (sym e) ∙ p .answer-is) (p .buffer-is) in
       record { put = o .put; whole = o .whole; claim = λ ms f _. rw e at (p .claim ms f (rw e)) }
 
   -- k is the question's number as the code has it; it and the member's have at most ten digits
@@ -127,7 +126,7 @@ module _ (s d d′ : List ℕ) (n : ℕ) where
   unfolding outputOf
   was-refused a r k d₁ i h g e p w =
       let u : length (lineText (refusalWords k (r .member))) ≤ 60000 = omega (arith, refusal-short 10 10 k (r .member) (omega arith) (omega arith) h g) in
-      let o = refused d d′ n (reportOf s) r d₁ (report-fits s) (rw e at u) (ap numbersOf (sym i) ∙ p .answer-is) (p .buffer-is) (rw e at w) in
+      let o = refused (textTooLong 0) d d′ n (reportOf s) r d₁ (report-fits s) (rw e at u) (ap numbersOf (sym i) ∙ p .answer-is) (p .buffer-is) (rw e at w) in
       record { put = o .put; whole = o .whole; claim = λ ms f h. absurd (no-refusal s d ms r f h (ap numbersOf (sym i) ∙ p .answer-is)) }
 
 -- what is printed stands within a buffer of 60,000 bytes or more

@@ -9,7 +9,7 @@ use Rattle.question.specs.declared.Refusal.{Refusal}
 use Rattle.question.specs.Question.{numberOf}
 use Rattle.member.specs.Member.{Member}
 use Rattle.question.specs.Reading.{Reading, got, no}
-use Rattle.text_answer.specs.Printed.{askRoom}
+use Rattle.text_answer.specs.Printed.{textTooLong, askRoom}
 use Rattle.schedule.specs.Schedule.{schedule}
 use Rattle.report_text.specs.ReportText.{reportText}
 use Rattle.report.specs.Report.{reportOf}
@@ -30,7 +30,7 @@ outputOf src = shown (reportOf src)
 -- What `print_schedule` promises, for all bytes and every buffer.
 pub record PrintedSchedule (src before after : List ℕ) (n : ℕ) : Type 0 where
   -- the report, or the refusal, 12 among them, is put at the buffer's start
-  pub put : Put before 0 (shown (askRoom 0 (length before) (reportOf src))) after n
+  pub put : Put before 0 (shown (askRoom (textTooLong 0) (length before) (reportOf src))) after n
   -- 60,000 bytes are room for every report: then the output is whole, 12 is never the refusal, and the bytes past the output stay
   pub whole : 60000 ≤ length before → (n ≡ length (outputOf src)) × (after ≡ outputOf src ++ drop (length (outputOf src)) before)
   -- demand 3 of the text, wherever the report fits

@@ -1,4 +1,4 @@
--- The numbers of the questions (document 01, "Questions before any check").
+-- The numbers of the questions (document 01, "Questions before any check"; 13: document 02, request 2).
 use Prim.Native.Nat.{ℕ}
 use Rattle.question.specs.declared.Question.{Question}
 use Rattle.question.specs.declared.Question.the-variants.{
@@ -14,6 +14,7 @@ use Rattle.question.specs.declared.Question.the-variants.{
   Ratio,
   Trailing,
   Buffer,
+  File,
 }
 
 abbrev pub numberOf : Question → ℕ
@@ -29,3 +30,4 @@ numberOf Bars = 9
 numberOf Ratio = 10
 numberOf Trailing = 11
 numberOf Buffer = 12
+numberOf File = 13

@@ -1,4 +1,4 @@
-// The questions that a schedule or a member is put before any check (document 01, "Questions before any check").
+// The questions that a schedule or a member is put before any check (document 01, "Questions before any check"; 13: document 02, request 2).
 // A question is a rule of validation. Input that gets a no is refused: the first no is the answer, and nothing is checked.
 ghost use mathlib.Core.Path.{_≡_};
 ghost use Rattle.question.specs.Question.{numberOf};
@@ -28,6 +28,8 @@ pub enum Question {
     Trailing,
     // 12: is the report buffer long enough?
     Buffer,
+    // 13: is the buffer long enough for the file that is written?
+    File,
 }
 
 // What questions put one after the other come to.
@@ -38,13 +40,13 @@ pub enum Verdict {
 }
 
 // A no: the question, and the member's place in the schedule, from 1.
-// The place is 0 for questions 1, 4, 11 and 12 of a schedule, and for 2 and 3 put to the count itself; a built member's refusals all have 1.
+// The place is 0 for questions 1, 4, 11, 12 and 13 of a schedule, and for 2 and 3 put to the count itself; a built member's refusals all have 1.
 pub struct Refusal {
     pub question: Question,
     pub member: u32,
 }
 
-// The number by which document 01 names a question.
+// The number by which the papers name a question.
 pub fn number_of(q: Question) -> u32
     ensures { λ r. ⌜ r ≡ numberOf q ⌝ }
 {
@@ -61,5 +63,6 @@ pub fn number_of(q: Question) -> u32
         Question::Ratio => 10,
         Question::Trailing => 11,
         Question::Buffer => 12,
+        Question::File => 13,
     }
 }

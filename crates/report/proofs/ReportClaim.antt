@@ -34,7 +34,7 @@ use Rattle.checks.proofs.Safe.{line-safe}
 use Rattle.text_answer.specs.declared.TextAnswer.{TextAnswer}
 use Rattle.text_answer.specs.declared.TextAnswer.the-variants.{Refused}
 use Rattle.report_text.specs.ReportText.{reportText, memberText, AcceptedFrom, linesFrom}
-use Rattle.text_answer.specs.Printed.{Printed}
+use Rattle.text_answer.specs.Printed.{textTooLong, Printed}
 use Rattle.report.specs.Report.{reportOf, memberReportOf, afterNumber}
 use Rattle.report.specs.ReportClaim.{SafeReport, Reported, MemberReported}
 use Rattle.text_answer.proofs.Printed.{text-written, refused-is}
@@ -42,7 +42,7 @@ use Rattle.report_text.proofs.ReportText.{members-lines, report-lines, mark-of}
 
 -- ---- A schedule.
 
-report-safe : (ms : List Member) → AcceptedMembers ms → SafeReport ms (reportText ms)
+pub report-safe : (ms : List Member) → AcceptedMembers ms → SafeReport ms (reportText ms)
 report-safe ms a =
     record {
       total = head-parsed markOf outcomeOf ms;
@@ -51,7 +51,7 @@ report-safe ms a =
           (member-parsed markOf outcomeOf ms i m h);
     }
 
-pub reported : (s d d′ : List ℕ) (a : TextAnswer) (ms : List Member) → schedule s ≡ got ms → Printed 0 (reportText ms) d d′ a → Reported s d d′ a
+pub reported : (s d d′ : List ℕ) (a : TextAnswer) (ms : List Member) → schedule s ≡ got ms → Printed (textTooLong 0) (reportText ms) d d′ a → Reported s d d′ a
 unfolding reportOf
 reported s d d′ a ms e p =
     record {
@@ -59,15 +59,15 @@ reported s d d′ a ms e p =
       buffer-is = rw e (p .buffer-is);
       claim = λ k f w.
           let same : ms ≡ k = cc in
-          rw (← same) (rw (text-written 0 (reportText ms) d d′ a p w) (report-safe ms (schedule-accepted s ms e .0)));
+          rw (← same) (rw (text-written _ (reportText ms) d d′ a p w) (report-safe ms (schedule-accepted s ms e .0)));
     }
 
 pub refused : (s d : List ℕ) (r : Refusal) → schedule s ≡ reading.no r → Reported s d d (Refused r)
 unfolding reportOf
 refused s d r e =
     record {
-      answer-is = rw e (refused-is 0 r d .0);
-      buffer-is = rw e (refused-is 0 r d .1);
+      answer-is = rw e (refused-is (textTooLong 0) r d .0);
+      buffer-is = rw e (refused-is (textTooLong 0) r d .1);
       claim = λ k f w. absurd (numbered (r .question) w);
     }
 
@@ -103,7 +103,7 @@ pub validated-accepted : (s : List ℕ) (count at : ℕ) → validated.Accepted 
 validated-accepted s count at e p = read-of s (schedule s) count at refl e p .accepted
 
 pub validated-yes : (s d d′ : List ℕ) (a : TextAnswer) (count at : ℕ) → validated.Accepted count ≡ scheduleAnswer (schedule s) →
-    at ≡ afterNumber (numberAt s 0) → Printed 0 (lineText (headWords count) ++ linesFrom count s at) d d′ a → Reported s d d′ a
+    at ≡ afterNumber (numberAt s 0) → Printed (textTooLong 0) (lineText (headWords count) ++ linesFrom count s at) d d′ a → Reported s d d′ a
 validated-yes s d d′ a count at e p w =
     let r = read-of s (schedule s) count at refl e p in
     reported s d d′ a (r .ms) (r .reads) (rw (r .text) at w)
@@ -112,23 +112,23 @@ validated-yes s d d′ a count at e p w =
 
 module _ (x : Built) where
   pub member-reported : (d d′ : List ℕ) (a : TextAnswer) → builtVerdict (x .mark) (x .kind) (x .fields .v) ≡ Accepted →
-      Printed 1 (memberText (memberOf x)) d d′ a → MemberReported x d d′ a
+      Printed (textTooLong 1) (memberText (memberOf x)) d d′ a → MemberReported x d d′ a
   unfolding memberReportOf
   member-reported d d′ a e p =
       record {
         answer-is = rw e (p .answer-is);
         buffer-is = rw e (p .buffer-is);
         claim = λ w.
-            rw (text-written 1 (memberText (memberOf x)) d d′ a p w)
+            rw (text-written _ (memberText (memberOf x)) d d′ a p w)
             (line-safe (memberOf x) (lineOf 0 (memberText (memberOf x))) (accepted-built (x .mark) (x .kind) (x .fields .v) e) (parsed-alone (markOf (memberOf x)) (outcomeOf (memberOf x))));
       }
 
   pub printed-member : {d d′ : List ℕ} {a : TextAnswer} (o : Outcome) → o ≡ outcomeOf (memberOf x) →
-      Printed 1 (lineText (lineWords (x .mark) o)) d d′ a → Printed 1 (memberText (memberOf x)) d d′ a
+      Printed (textTooLong 1) (lineText (lineWords (x .mark) o)) d d′ a → Printed (textTooLong 1) (memberText (memberOf x)) d d′ a
   printed-member o e p = rw (mark-of (x .mark) (kindOf (x .kind)) (x .fields .v), ← e) p
 
   pub member-refused : (d : List ℕ) (q : Question) → builtVerdict (x .mark) (x .kind) (x .fields .v) ≡ verdicts.Refused q →
       MemberReported x d d (Refused (refusal q 1))
   unfolding memberReportOf
   member-refused d q e =
-      record { answer-is = rw e (refused-is 1 (refusal q 1) d .0); buffer-is = rw e (refused-is 1 (refusal q 1) d .1); claim = λ w. absurd (numbered q w) }
+      record { answer-is = rw e (refused-is (textTooLong 1) (refusal q 1) d .0); buffer-is = rw e (refused-is (textTooLong 1) (refusal q 1) d .1); claim = λ w. absurd (numbered q w) }

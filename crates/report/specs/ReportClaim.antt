@@ -11,7 +11,7 @@ use Rattle.question.specs.Reading.{got}
 use Rattle.schedule.specs.Schedule.{schedule}
 use Rattle.checks.specs.LineClaim.{SafeLine}
 use Rattle.text_answer.specs.declared.TextAnswer.{TextAnswer}
-use Rattle.text_answer.specs.Printed.{numbersOf, answered, bufferAfter}
+use Rattle.text_answer.specs.Printed.{numbersOf, textTooLong, answered, bufferAfter}
 use Rattle.report.specs.Report.{reportOf, memberReportOf}
 
 -- Of every member of the schedule, in order: its line, read back from the text's bytes, is safe for its fields.
@@ -22,12 +22,12 @@ pub record SafeReport (ms : List Member) (text : List ℕ) : Type 0 where
 
 -- What `report` promises, for all bytes and every buffer: the answer, the whole buffer afterwards, and demand 3 of the text in it.
 pub record Reported (src before after : List ℕ) (answer : TextAnswer) : Type 0 where
-  pub answer-is : numbersOf answer ≡ answered 0 (reportOf src) (length before)
-  pub buffer-is : after ≡ bufferAfter 0 (reportOf src) before
+  pub answer-is : numbersOf answer ≡ answered (textTooLong 0) (reportOf src) (length before)
+  pub buffer-is : after ≡ bufferAfter (textTooLong 0) (reportOf src) before
   pub claim : (ms : List Member) → schedule src ≡ got ms → numbersOf answer .question ≡ 0 → SafeReport ms (take (numbersOf answer .length) after)
 
 -- What `member_report` promises of a built member.
 pub record MemberReported (x : Built) (before after : List ℕ) (answer : TextAnswer) : Type 0 where
-  pub answer-is : numbersOf answer ≡ answered 1 (memberReportOf x) (length before)
-  pub buffer-is : after ≡ bufferAfter 1 (memberReportOf x) before
+  pub answer-is : numbersOf answer ≡ answered (textTooLong 1) (memberReportOf x) (length before)
+  pub buffer-is : after ≡ bufferAfter (textTooLong 1) (memberReportOf x) before
   pub claim : numbersOf answer .question ≡ 0 → SafeLine (memberOf x) (lineOf 0 (take (numbersOf answer .length) after))

@@ -2,13 +2,14 @@
 ghost use mathlib.Core.List.{_++_};
 ghost use Rattle.text.specs.Put.{Put};
 ghost use Rattle.line.specs.Line.{headWords, lineText};
-ghost use Rattle.text_answer.specs.Printed.{Printed};
+ghost use Rattle.text_answer.specs.Printed.{textTooLong, Printed};
 ghost use Rattle.report_text.specs.ReportText.{AcceptedFrom, linesFrom};
 use checks::check_member;
 use field_table::kind_of;
 use line::put_head;
 use line::put_line;
 use members::read_member;
+use question::Question;
 use text_answer::TextAnswer;
 use text_answer::no_room;
 
@@ -42,12 +43,12 @@ fn put_report(src: &[u8], at: usize, count: u32, out: &mut [u8]) -> usize
 // The report of `count` accepted members from `at` on. The first run only finds how long it is.
 fn print_measured(src: &[u8], at: usize, count: u32, out: &mut [u8]) -> TextAnswer
     requires { ⌜ AcceptedFrom count (now src) at ⌝ }
-    ensures { λ r. ⌜ Printed 0 (lineText (headWords count) ++ linesFrom count (now (src .entry)) at) (now (out .entry)) (now (out .exit)) r ⌝ }
+    ensures { λ r. ⌜ Printed (textTooLong 0) (lineText (headWords count) ++ linesFrom count (now (src .entry)) at) (now (out .entry)) (now (out .exit)) r ⌝ }
 {
     let mut none = [0u8; 1];
     let n = put_report(src, at, count, &mut none);
     if out.len() < n {
-        no_room(0)
+        no_room(Question::Buffer, 0)
     } else {
         TextAnswer::Written(put_report(src, at, count, out))
     }
@@ -56,7 +57,7 @@ fn print_measured(src: &[u8], at: usize, count: u32, out: &mut [u8]) -> TextAnsw
 // The same. No first line is longer than 19 bytes and no other than 55, so a buffer of that size needs no first run.
 pub fn print_report(src: &[u8], at: usize, count: u32, out: &mut [u8]) -> TextAnswer
     requires { ⌜ AcceptedFrom count (now src) at ⌝ }
-    ensures { λ r. ⌜ Printed 0 (lineText (headWords count) ++ linesFrom count (now (src .entry)) at) (now (out .entry)) (now (out .exit)) r ⌝ }
+    ensures { λ r. ⌜ Printed (textTooLong 0) (lineText (headWords count) ++ linesFrom count (now (src .entry)) at) (now (out .entry)) (now (out .exit)) r ⌝ }
 {
     if 19 + 55 * (count as usize) <= out.len() {
         TextAnswer::Written(put_report(src, at, count, out))

@@ -20,7 +20,7 @@ use Rattle.field_validator.proofs.Checked.{passes}
 use Rattle.members.specs.Members.{members}
 use Rattle.members.proofs.Members.{members-length}
 use Rattle.members.proofs.Accepted.{no-got, went-on, number-was, members-accepted}
-use Rattle.schedule.specs.Schedule.{schedule}
+use Rattle.schedule.specs.Schedule.{countFits, schedule}
 
 -- how an accepted schedule was read
 pub record ScheduleRead (s : List ℕ) (ms : List Member) : Type 0 where
@@ -33,7 +33,7 @@ pub record ScheduleRead (s : List ℕ) (ms : List Member) : Type 0 where
   pub reads : members count s start 0 1 ≡ got (placed ms end)
   pub whole : length s ≤ end
 
-asked-got : {N A : Type 0} (q : N) (t : Bool) (next : Reading N A) (a : A) → ask q t next ≡ got a → (t ≡ true) × (next ≡ got a)
+pub asked-got : {N A : Type 0} (q : N) (t : Bool) (next : Reading N A) (a : A) → ask q t next ≡ got a → (t ≡ true) × (next ≡ got a)
 asked-got q true next a e = (refl, e)
 asked-got q false next a e = absurd (no-got e)
 
@@ -45,8 +45,8 @@ pub schedule-read : (s : List ℕ) (ms : List Member) → schedule s ≡ got ms 
 unfolding schedule
 schedule-read s ms e =
     let z = asked-got (refusal Size 0) (leb (length s) 60000) _ ms e in
-    let n = went-on (named 0 (checked Count (λ k. leb k 500) s 0)) _ ms (z .1) in
-    let c = named-got 0 (checked Count (λ k. leb k 500) s 0) (n .value) (n .was) in
+    let n = went-on (named 0 (checked Count countFits s 0)) _ ms (z .1) in
+    let c = named-got 0 (checked Count countFits s 0) (n .value) (n .was) in
     let m = went-on (members (n .value .value) s (n .value .next) 0 1) _ ms (n .then) in
     let t = asked-got (refusal Trailing 0) (leb (length s) (m .value .next)) _ ms (m .then) in
     let same : m .value .value ≡ ms = cc in
@@ -55,8 +55,8 @@ schedule-read s ms e =
       start = n .value .next;
       end = m .value .next;
       short = leb-true _ _ (z .0);
-      counted = number-was Count (λ k. leb k 500) s 0 (n .value .value) (n .value .next) c;
-      few = leb-true _ _ (passes Count (λ k. leb k 500) s 0 (n .value .value) (n .value .next) c);
+      counted = number-was Count countFits s 0 (n .value .value) (n .value .next) c;
+      few = leb-true _ _ (passes Count countFits s 0 (n .value .value) (n .value .next) c);
       reads = m .was ∙ ap (λ (l : List Member). got (placed l (m .value .next))) same;
       whole = leb-true _ _ (t .0);
     }

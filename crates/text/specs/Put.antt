@@ -1,4 +1,4 @@
--- What a writer of text does to a lent buffer.
+-- What putting a text, or other bytes, does to a lent buffer.
 use Prim.Native.Nat.{ℕ, _+_, _<_, min}
 use mathlib.Core.Path.{_≡_}
 use mathlib.Core.List.{List}

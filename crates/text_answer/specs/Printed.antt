@@ -1,4 +1,4 @@
--- A text printed into a buffer, or refused: the answer in document 01's numbers, and the buffer afterwards ("One schedule, printed").
+-- A text, or a file, put into a buffer or refused: the answer in the papers' numbers, and the buffer afterwards (document 01, "One schedule, printed").
 use Prim.Native.Nat.{ℕ}
 use mathlib.Core.Path.{_≡_}
 use mathlib.Core.List.{List, _++_}
@@ -27,27 +27,31 @@ abbrev pub numbersOf : TextAnswer → Numbers
 numbersOf (Written n) = written n
 numbersOf (Refused r) = refused r
 
--- question 12, which names member `whose`: is the text that is asked for at most `room` bytes?
-abbrev pub askRoom : ℕ → ℕ → Reading Refusal (List ℕ) → Reading Refusal (List ℕ)
-askRoom whose room asked = andThen asked (λ text. ask (refusal Buffer whose) (leb (length text) room) (got text))
+-- question 12 where there is no room for the text; it names member `whose`
+abbrev pub textTooLong : ℕ → Refusal
+textTooLong whose = refusal Buffer whose
 
--- The answer, for a buffer of `room` bytes, to a text that is asked for or refused.
+-- is the text that is asked for at most `room` bytes? If not, the refusal is `full`.
+abbrev pub askRoom : Refusal → ℕ → Reading Refusal (List ℕ) → Reading Refusal (List ℕ)
+askRoom full room asked = andThen asked (λ text. ask full (leb (length text) room) (got text))
+
+-- The answer to a text that is asked for or refused; and the same for a buffer of `room` bytes.
 abbrev pub numbersFor : Reading Refusal (List ℕ) → Numbers
 numbersFor (got text) = written (length text)
 numbersFor (no r) = refused r
 
-abbrev pub answered : ℕ → Reading Refusal (List ℕ) → ℕ → Numbers
-answered whose asked room = numbersFor (askRoom whose room asked)
+abbrev pub answered : Refusal → Reading Refusal (List ℕ) → ℕ → Numbers
+answered full asked room = numbersFor (askRoom full room asked)
 
 -- What the buffer holds afterwards. Bytes past the text stay; a refusal leaves the buffer.
 abbrev pub bufferWith : Reading Refusal (List ℕ) → List ℕ → List ℕ
 bufferWith (got text) buffer = text ++ drop (length text) buffer
 bufferWith (no r) buffer = buffer
 
-abbrev pub bufferAfter : ℕ → Reading Refusal (List ℕ) → List ℕ → List ℕ
-bufferAfter whose asked buffer = bufferWith (askRoom whose (length buffer) asked) buffer
+abbrev pub bufferAfter : Refusal → Reading Refusal (List ℕ) → List ℕ → List ℕ
+bufferAfter full asked buffer = bufferWith (askRoom full (length buffer) asked) buffer
 
 -- both, for a text that is asked for
-pub record Printed (whose : ℕ) (text before after : List ℕ) (answer : TextAnswer) : Type 0 where
-  pub answer-is : numbersOf answer ≡ answered whose (got text) (length before)
-  pub buffer-is : after ≡ bufferAfter whose (got text) before
+pub record Printed (full : Refusal) (text before after : List ℕ) (answer : TextAnswer) : Type 0 where
+  pub answer-is : numbersOf answer ≡ answered full (got text) (length before)
+  pub buffer-is : after ≡ bufferAfter full (got text) before

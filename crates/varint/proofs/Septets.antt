@@ -31,16 +31,16 @@ module _ (s : List ℕ) (left p w v : ℕ) (h : 0 < left) where
   unfolding septetsAt
   last-septet-at b q e t = rw (one-less, q) (simp (lt-leb _ _ e, lt-ltb _ _ (rw q at t)))
 
-  pub group-follows : (b : ℕ) → b ≡ getD s p 0 → p < length s → 128 ≤ b
+  pub septet-follows : (b : ℕ) → b ≡ getD s p 0 → p < length s → 128 ≤ b
       → septetsAt left s p w v ≡ septetsAt (left - 1) s (p + 1) (w * 128) (v + (b - 128) * w)
   unfolding septetsAt
-  group-follows b q e t =
+  septet-follows b q e t =
       ap (λ (k : ℕ). septetsAt k s p w v) one-less ∙ rw q (simp (lt-leb _ _ e, le-ltb _ _ (rw q at t)))
 
 -- the only septet is the number
-pub only-group : (b next : ℕ) → b < 128 → lastSeptet b 1 0 next ≡ Value b next
+pub only-septet : (b next : ℕ) → b < 128 → lastSeptet b 1 0 next ≡ Value b next
 unfolding lastSeptet
-only-group b next h =
+only-septet b next h =
     let e : 0 + b * 1 ≡ b = omega arith in
     rw e (simp (or-true, lt-ltb b (2 ^ 32) (omega arith)))
 
@@ -56,7 +56,7 @@ module _ (s : List ℕ) (at a : ℕ) (q : a ≡ getD s at 0) (h : at < length s)
   unfolding numberAt
   from-second =
       let e : 0 + (a - 128) * 1 ≡ a - 128 = omega arith in
-      rw (← e) (group-follows s 5 at 1 0 (omega arith) a q h t)
+      rw (← e) (septet-follows s 5 at 1 0 (omega arith) a q h t)
 
   -- the second, b, is the last, or a third follows
   module _ (b : ℕ) (r : b ≡ getD s (at + 1) 0) (g : at + 1 < length s) where
@@ -67,7 +67,7 @@ module _ (s : List ℕ) (at a : ℕ) (q : a ≡ getD s at 0) (h : at < length s)
     second-last u = rw two (from-second ∙ last-septet-at s 4 (at + 1) 128 (a - 128) (omega arith) b r g u)
 
     pub from-third : 128 ≤ b → numberAt s at ≡ septetsAt 3 s (at + 2) 16384 (a - 128 + (b - 128) * 128)
-    from-third u = rw two (from-second ∙ group-follows s 4 (at + 1) 128 (a - 128) (omega arith) b r g u)
+    from-third u = rw two (from-second ∙ septet-follows s 4 (at + 1) 128 (a - 128) (omega arith) b r g u)
 
 -- ---- Bounds.
 
@@ -126,9 +126,9 @@ Cases left s p w v x next =
     (p < length s) × (((b < 128) × Ended b w v (p + 1) x next)
     ⊎ ((128 ≤ b) × (septetsAt left s (p + 1) (w * 128) (v + (b - 128) * w) ≡ Value x next)))
 
-pub groups-inv : (left : ℕ) (s : List ℕ) (p w v x next : ℕ) → septetsAt (suc left) s p w v ≡ Value x next → Cases left s p w v x next
+pub septets-inv : (left : ℕ) (s : List ℕ) (p w v x next : ℕ) → septetsAt (suc left) s p w v ≡ Value x next → Cases left s p w v x next
 unfolding septetsAt
-groups-inv left s p w v x next =
+septets-inv left s p w v x next =
     if-case (λ (n : Number). n ≡ Value x next → Cases left s p w v x next) (leb (length s) p) _ _
     (λ _ r. absurd (refused-no-value r))
     (λ t. if-case (λ (n : Number). n ≡ Value x next → Cases left s p w v x next) (ltb (getD s p 0) 128) _ _

@@ -6,8 +6,7 @@ use native.Mathlib.Omega.{arith}
 use borrow.Author.Tests.{lt-ltb, le-ltb}
 use lib.ListN.{length, drop, length-append}
 use lib.Seq.{getD-append-seam, getD-append-add, drop-append-add, take-append-seam}
-use Rattle.program_output.specs.ProgramOutput.{outputOf}
-use Rattle.vectors.specs.Vectors.{sameBytes, lengthAt, partAt, partEnd, vectorEnd, equalAt, startsFrom, starts, equalOf, tally, tallyOf}
+use Rattle.vectors.specs.Vectors.{sameBytes, pairAt, answerTo, partAt, partEnd, vectorEnd, equalAt, startsFrom, starts, equalOf, tally, tallyOf}
 use Rattle.vectors.specs.Row.{Vector, partBytes, rowOf, agreeing}
 use Rattle.vectors.proofs.Walk.{whole}
 
@@ -18,8 +17,8 @@ unfolding partBytes
 part-length t = omega arith
 
 module _ (pre t rest : List ℕ) where
-  length-read : lengthAt (pre ++ (partBytes t ++ rest)) (length pre) ≡ length t
-  unfolding lengthAt partBytes
+  length-read : pairAt (pre ++ (partBytes t ++ rest)) (length pre) ≡ length t
+  unfolding pairAt partBytes
   length-read =
       let a = getD-append-seam pre (length t % 256) ((length t / 256) ∷ (t ++ rest)) 0 in
       let b = getD-append-add pre ((length t % 256) ∷ ((length t / 256) ∷ (t ++ rest))) 1 0 in
@@ -41,23 +40,35 @@ module _ (pre t rest : List ℕ) where
 
 module _ (pre : List ℕ) (x : Vector) (rest : List ℕ) where
   abbrev row : List ℕ
-  row = pre ++ (partBytes (x .schedule) ++ (partBytes (x .text) ++ rest))
+  row = pre ++ (x .form ∷ (partBytes (x .given) ++ (partBytes (x .text) ++ rest)))
 
-  -- what stands in front of its text, and of the next vector
+  -- what stands in front of its first part, of its text, and of the next vector
+  abbrev head : List ℕ
+  head = pre ++ (x .form ∷ [])
+
   abbrev front : List ℕ
-  front = pre ++ partBytes (x .schedule)
+  front = head ++ partBytes (x .given)
 
   abbrev passed : List ℕ
   passed = front ++ partBytes (x .text)
 
+  from-given : row ≡ head ++ (partBytes (x .given) ++ (partBytes (x .text) ++ rest))
+  from-given = sym (append-assoc pre (x .form ∷ []) (partBytes (x .given) ++ (partBytes (x .text) ++ rest)))
+
   from-text : row ≡ front ++ (partBytes (x .text) ++ rest)
-  from-text = sym (append-assoc pre (partBytes (x .schedule)) (partBytes (x .text) ++ rest))
+  from-text = from-given ∙ sym (append-assoc head (partBytes (x .given)) (partBytes (x .text) ++ rest))
 
   from-next : row ≡ passed ++ rest
   from-next = from-text ∙ sym (append-assoc front (partBytes (x .text)) rest)
 
-  text-starts : partEnd row (length pre) ≡ length front
-  text-starts = end-read pre (x .schedule) (partBytes (x .text) ++ rest)
+  given-starts : length pre + 1 ≡ length head
+  given-starts = sym (length-append pre (x .form ∷ []))
+
+  given-read : partAt row (length pre + 1) ≡ x .given
+  given-read = rw (given-starts, from-given) (part-read head (x .given) (partBytes (x .text) ++ rest))
+
+  text-starts : partEnd row (length pre + 1) ≡ length front
+  text-starts = rw (given-starts, from-given) (end-read head (x .given) (partBytes (x .text) ++ rest))
 
   text-ends : partEnd row (length front) ≡ length passed
   text-ends = rw from-text (end-read front (x .text) rest)
@@ -69,15 +80,15 @@ module _ (pre : List ℕ) (x : Vector) (rest : List ℕ) where
   next-starts = ap (partEnd row) text-starts ∙ text-ends
 
   more : length pre < length passed
-  more = omega (arith, length-append pre (partBytes (x .schedule)), length-append front (partBytes (x .text)), part-length (x .schedule))
+  more = omega (arith, given-starts, length-append head (partBytes (x .given)), length-append front (partBytes (x .text)))
 
   within : length passed ≤ length row
   within = rw from-next (omega (arith, length-append passed rest))
 
-  equal-read : equalAt row (length pre) ≡ sameBytes (outputOf (x .schedule)) (x .text)
+  equal-read : equalAt row (length pre) ≡ sameBytes (answerTo (x .form) (x .given)) (x .text)
   equal-read =
-      whole row (length pre) (length front) (length passed) (sym text-starts) (sym text-ends) within (x .schedule) (x .text)
-      (sym (part-read pre (x .schedule) (partBytes (x .text) ++ rest))) (sym text-read)
+      whole row (length pre) (length front) (length passed) (sym text-starts) (sym text-ends) within (x .form) (x .given) (x .text)
+      (sym (getD-append-seam pre (x .form) (partBytes (x .given) ++ (partBytes (x .text) ++ rest)) 0)) (sym given-read) (sym text-read)
 
 -- ---- The row.
 
@@ -110,18 +121,18 @@ walked [] n pre h = none n pre
 walked (x ∷ xs) zero pre h = absurd (omega arith)
 walked (x ∷ xs) (suc n) pre h = step n pre x xs (walked xs n (passed pre x (rowOf xs)) (omega arith))
 
--- a vector has four bytes or more
+-- a vector has a byte or more
 row-long : (xs : List Vector) → length xs ≤ length (rowOf xs)
 unfolding rowOf
 row-long [] = omega arith
 row-long (x ∷ xs) =
-    omega (arith, row-long xs, length-append (partBytes (x .schedule)) (partBytes (x .text) ++ rowOf xs), length-append (partBytes (x .text)) (rowOf xs), part-length (x .schedule))
+    omega (arith, row-long xs, length-append (partBytes (x .given)) (partBytes (x .text) ++ rowOf xs), length-append (partBytes (x .text)) (rowOf xs))
 
-pub row-read : (xs : List Vector) → length (rowOf xs) ≤ 200000 → tallyOf (rowOf xs) ≡ tally (length xs) (agreeing xs)
+pub row-read : (xs : List Vector) → length (rowOf xs) ≤ 250000 → tallyOf (rowOf xs) ≡ tally (length xs) (agreeing xs)
 unfolding tallyOf starts
 row-read xs h =
     let r = walked xs (length (rowOf xs)) [] (row-long xs) in
-    ap₂ tally (rw (le-ltb 200000 (length (rowOf xs)) h, r .0) (omega arith)) (r .1)
+    ap₂ tally (rw (le-ltb 250000 (length (rowOf xs)) h, r .0) (omega arith)) (r .1)
 
 -- ---- Cut input: the vector is counted, and is not equal.
 
@@ -129,15 +140,19 @@ nothing : tallyOf [] ≡ tally 0 0
 unfolding tallyOf starts startsFrom equalOf
 nothing = refl
 
--- a length of oneIf byte; a schedule cut; a text cut
-length-cut : tallyOf (1 ∷ []) ≡ tally 1 0
-unfolding tallyOf starts startsFrom equalOf equalAt partEnd lengthAt
+-- a form alone; a length of one byte; what is given cut; a text cut
+form-alone : tallyOf (0 ∷ []) ≡ tally 1 0
+unfolding tallyOf starts startsFrom equalOf equalAt partEnd pairAt
+form-alone = refl
+
+length-cut : tallyOf (0 ∷ 1 ∷ []) ≡ tally 1 0
+unfolding tallyOf starts startsFrom equalOf equalAt partEnd pairAt
 length-cut = refl
 
-schedule-cut : tallyOf (2 ∷ 0 ∷ 0 ∷ []) ≡ tally 1 0
-unfolding tallyOf starts startsFrom equalOf equalAt partEnd lengthAt
-schedule-cut = refl
+given-cut : tallyOf (1 ∷ 2 ∷ 0 ∷ 0 ∷ []) ≡ tally 1 0
+unfolding tallyOf starts startsFrom equalOf equalAt partEnd pairAt
+given-cut = refl
 
-text-cut : tallyOf (1 ∷ 0 ∷ 0 ∷ 2 ∷ 0 ∷ 109 ∷ []) ≡ tally 1 0
-unfolding tallyOf starts startsFrom equalOf equalAt partEnd lengthAt
+text-cut : tallyOf (0 ∷ 1 ∷ 0 ∷ 0 ∷ 2 ∷ 0 ∷ 109 ∷ []) ≡ tally 1 0
+unfolding tallyOf starts startsFrom equalOf equalAt partEnd pairAt
 text-cut = refl

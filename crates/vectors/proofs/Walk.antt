@@ -6,10 +6,9 @@ use mathlib.Core.List.{List, [], _∷_}
 use native.Mathlib.Omega.{arith}
 use borrow.Author.Tests.{lt-ltb, le-ltb, le-leb, lt-leb}
 use lib.Dec.{ltb}
-use lib.ListN.{length, take, drop}
-use Rattle.program_output.specs.ProgramOutput.{outputOf}
+use lib.ListN.{length, getD, take, drop}
 use Rattle.vectors.specs.declared.Tally.{Tally}
-use Rattle.vectors.specs.Vectors.{sameBytes, lengthAt, partAt, partEnd, vectorEnd, equalAt, oneIf, startsFrom, starts, equalOf, tally, rowTally, tallyOf}
+use Rattle.vectors.specs.Vectors.{sameBytes, pairAt, answerTo, partAt, partEnd, vectorEnd, equalAt, oneIf, startsFrom, starts, equalOf, tally, rowTally, tallyOf}
 
 -- ---- One vector.
 
@@ -17,10 +16,10 @@ use Rattle.vectors.specs.Vectors.{sameBytes, lengthAt, partAt, partEnd, 
 pub part-lent : (s : List ℕ) (p a e : ℕ) → a ≡ p + 2 → e ≡ partEnd s p → take (e - a) (drop a s) ≡ partAt s p
 unfolding partAt partEnd
 part-lent s p a e f g =
-    let h : e - a ≡ lengthAt s p = omega arith in
+    let h : e - a ≡ pairAt s p = omega arith in
     rw (h, f)
 
-module _ (s : List ℕ) (p b d : ℕ) (e : b ≡ partEnd s p) (f : d ≡ partEnd s b) where
+module _ (s : List ℕ) (p b d : ℕ) (e : b ≡ partEnd s (p + 1)) (f : d ≡ partEnd s b) where
   ends : d ≡ vectorEnd s p
   ends = f ∙ ap (partEnd s) e
 
@@ -28,9 +27,9 @@ module _ (s : List ℕ) (p b d : ℕ) (e : b ≡ partEnd s p) (f : d ≡ partEnd
   unfolding equalAt
   cut h = rw (lt-leb (vectorEnd s p) (length s) (rw ends at h))
 
-  pub whole : d ≤ length s → (t u : List ℕ) → t ≡ partAt s p → u ≡ partAt s b → equalAt s p ≡ sameBytes (outputOf t) u
+  pub whole : d ≤ length s → (k : ℕ) (t u : List ℕ) → k ≡ getD s p 0 → t ≡ partAt s (p + 1) → u ≡ partAt s b → equalAt s p ≡ sameBytes (answerTo k t) u
   unfolding equalAt
-  whole h t u i j = rw (le-leb (vectorEnd s p) (length s) (rw ends at h), i, j, e)
+  whole h k t u g i j = rw (le-leb (vectorEnd s p) (length s) (rw ends at h), g, i, j, e)
 
 -- ---- A turn of the loop: v vectors have been counted, and the next begins at p.
 
@@ -75,6 +74,6 @@ module _ (s : List ℕ) (v p : ℕ) where
 
 -- ---- The input, of n bytes.
 
-pub tally-is : (s : List ℕ) (t : Tally) (m n : ℕ) → t ≡ rowTally s → n ≡ length s → m ≡ oneIf (ltb 200000 n) → tally (t .vectors + m) (t .equal) ≡ tallyOf s
+pub tally-is : (s : List ℕ) (t : Tally) (m n : ℕ) → t ≡ rowTally s → n ≡ length s → m ≡ oneIf (ltb 250000 n) → tally (t .vectors + m) (t .equal) ≡ tallyOf s
 unfolding tallyOf
 tally-is s t m n a c d = rw (a, d, c)

@@ -155,11 +155,25 @@ module _ (mark : ℕ) (v : List ℕ) (m : markInRange mark ≡ true) where
   accepted-member kinds.Column e a = (in-marks, accepted-column v e a)
   accepted-member kinds.Mesh e a = (in-marks, accepted-mesh v e a)
 
--- what a built member that is accepted satisfies
-pub accepted-built : (mark number : ℕ) (v : List ℕ) → builtVerdict mark number v ≡ Accepted → AcceptedMember (memberAt mark (kindOf number) v)
+-- ---- A built member.
+
+-- what each of its questions was answered
+pub record BuiltPassed (mark number : ℕ) (v : List ℕ) : Type 0 where
+  pub mark-in-range : markInRange mark ≡ true
+  pub is-known : known number ≡ true
+  pub held : fieldsHold (fieldsOf (kindOf number)) 0 v ≡ true
+  pub verdict : memberVerdict (kindOf number) v ≡ Accepted
+
+pub built-passed : (mark number : ℕ) (v : List ℕ) → builtVerdict mark number v ≡ Accepted → BuiltPassed mark number v
 unfolding builtVerdict fieldsVerdict
-accepted-built mark number v a =
+built-passed mark number v a =
     let m = asked-yes Mark (markInRange mark) _ a in
     let k = asked-yes Kind (known number) _ (m .1) in
     let f = asked-yes Field (fieldsHold (fieldsOf (kindOf number)) 0 v) _ (k .1) in
-    accepted-member mark v (m .0) (kindOf number) (f .0) (f .1)
+    record { mark-in-range = m .0; is-known = k .0; held = f .0; verdict = f .1 }
+
+-- what it satisfies
+pub accepted-built : (mark number : ℕ) (v : List ℕ) → builtVerdict mark number v ≡ Accepted → AcceptedMember (memberAt mark (kindOf number) v)
+accepted-built mark number v a =
+    let p = built-passed mark number v a in
+    accepted-member mark v (p .mark-in-range) (kindOf number) (p .held) (p .verdict)

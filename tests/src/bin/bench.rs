@@ -4,6 +4,7 @@ use std::hint::black_box;
 
 use koxaltes_tests::comparison::{Checker, Comparison, Library, Model};
 use koxaltes_tests::guard::List;
+use koxaltes_tests::make::words::of_file;
 use koxaltes_tests::make::{self, encode, Random, Record};
 use koxaltes_tests::measure::{interleaved, stack_use, Rounds, Timing, LONG, SHORT};
 use koxaltes_tests::model::built::Built;
@@ -129,7 +130,35 @@ fn time_built(members: &Members) {
     print_row(&format!("{}, utilization", members.name), built.len(), &timing);
 }
 
-fn print_stack(inputs: &[Input], members: &[Members]) {
+/// Members held as words, which are written into a buffer with room for any such schedule.
+struct Held {
+    name: &'static str,
+    words: Vec<u32>,
+    members: usize,
+}
+
+/// The members of inputs (a) and (e).
+fn held(inputs: &[Input], random: &Random) -> [Held; 2] {
+    let written = |name, place: usize| {
+        let Input { schedules, members, .. } = &inputs[place];
+        Held { name, words: of_file(&schedules[0], random), members: *members }
+    };
+    [written("(i) 500 members of mixed kinds, written", 0), written("(j) 500 beams, written", 6)]
+}
+
+fn write(checker: &dyn Checker, words: &[u32], out: &mut [u8]) {
+    let _ = black_box(checker.write_schedule(black_box(words).into(), black_box(out)));
+}
+
+fn time_writing(rounds: &Rounds, held: &Held) {
+    let (mut left, mut right) = (vec![0; ROOM], vec![0; ROOM]);
+    let mut library = || write(&Library, &held.words, &mut left);
+    let mut model = || write(&Model, &held.words, &mut right);
+    let timing = interleaved(rounds, &mut library, &mut model);
+    print_row(held.name, held.members, &timing);
+}
+
+fn print_stack(inputs: &[Input], members: &[Members], held: &[Held]) {
     let mut out = vec![0; ROOM];
     println!("\nstack overwritten by a call, bytes (the caller's frame included)");
     println!("{:44} {:>12} {:>12}", "", "library", "model");
@@ -156,30 +185,47 @@ fn print_stack(inputs: &[Input], members: &[Members]) {
         };
         println!("{:44} {:12} {:12}", format!("{name}, utilization"), of(&Library), of(&Model));
     }
+    for Held { name, words, .. } in held {
+        let mut of = |checker: &dyn Checker| stack_use(&mut || write(checker, words, &mut out));
+        println!("{name:44} {:12} {:12}", of(&Library), of(&Model));
+    }
 }
 
-fn main() {
-    let random = Random::new(1);
-    let inputs = inputs(&random);
+fn members(random: &Random) -> [Members; 6] {
     let built = |name, kind, count| Members {
         name,
-        records: chosen(&random, count, |record| passes(record, kind)),
+        records: chosen(random, count, |record| passes(record, kind)),
     };
-    let members = [
+    [
         built("1 built beam", 1, 1),
         built("1 built column", 2, 1),
         built("1 built mesh", 3, 1),
         built("500 built beams", 1, 500),
         built("500 built columns", 2, 500),
         built("500 built meshes", 3, 500),
-    ];
-    let mut comparison = Comparison::new(Library, &random);
+    ]
+}
+
+/// Stops where the outputs are not equal.
+fn compare(random: &Random, inputs: &[Input], members: &[Members], held: &[Held]) {
+    let mut comparison = Comparison::new(Library, random);
     for bytes in inputs.iter().flat_map(|input| &input.schedules) {
         comparison.schedule(bytes).expect("equal outputs");
     }
     for record in members.iter().flat_map(|members| &members.records) {
         comparison.built(record).expect("equal outputs");
     }
+    for held in held {
+        comparison.words(&held.words).expect("equal outputs");
+    }
+}
+
+fn main() {
+    let random = Random::new(1);
+    let inputs = inputs(&random);
+    let members = members(&random);
+    let held = held(&inputs, &random);
+    compare(&random, &inputs, &members, &held);
     println!("outputs are equal; rounds interleaved; no buffer is cleared between calls");
     println!("the library allocates nothing: it links no allocator; the model keeps one Vec");
     println!("ns per call and per member: medians, then the least of the rounds");
@@ -190,9 +236,11 @@ fn main() {
     for members in &members {
         time_built(members);
     }
+    held.iter().for_each(|held| time_writing(&SHORT, held));
     print_head("long rounds, ten milliseconds");
     for input in &inputs {
         time_schedules(&LONG, input);
     }
-    print_stack(&inputs, &members[..3]);
+    held.iter().for_each(|held| time_writing(&LONG, held));
+    print_stack(&inputs, &members[..3], &held);
 }

@@ -3,7 +3,7 @@
 use std::process::ExitCode;
 use std::time::Instant;
 
-use koxaltes_tests::branches::required;
+use koxaltes_tests::branches::{required, required_of_writer, Tally};
 use koxaltes_tests::comparison::{Answers, Checker, Comparison, Library};
 use koxaltes_tests::make::Random;
 use koxaltes_tests::runs;
@@ -25,23 +25,32 @@ fn print_table<C: Checker>(comparison: &Comparison<C>) {
     print_answers("built member reports", &comparison.built_answers);
     print_answers("built member utilizations", &comparison.utilization_answers);
     print_answers("totals of lists", &comparison.totals_answers);
+    print_answers("schedules from members", &comparison.writer_answers);
+    println!("lists of members as words: {}", comparison.word_lists);
     println!("members of accepted schedules: {}", comparison.members);
     println!("calls: {}", comparison.calls);
-    println!("cases reached by them:");
-    for ((about, variant), count) in comparison.tally.iter() {
-        println!("  {about:40} {variant:6} {count:8}");
+    print_cases("cases reached by them", &comparison.tally);
+    print_cases("cases of the writer", &comparison.writer_tally);
+}
+
+fn print_cases(title: &str, tally: &Tally) {
+    println!("{title}:");
+    for ((about, variant), count) in tally.iter() {
+        println!("  {about:43} {variant:6} {count:8}");
     }
 }
 
 /// Questions and cases that were not reached.
 fn gaps<C: Checker>(comparison: &Comparison<C>) -> Vec<String> {
-    let mut gaps: Vec<String> =
-        comparison.tally.missing().iter().map(|case| format!("case {case:?}")).collect();
+    let mut missing = comparison.tally.missing(required());
+    missing.extend(comparison.writer_tally.missing(required_of_writer()));
+    let mut gaps: Vec<String> = missing.iter().map(|case| format!("case {case:?}")).collect();
     let lists = [
         ("schedules", &comparison.schedule_answers, (0..=12).collect::<Vec<usize>>()),
         ("built members", &comparison.built_answers, vec![0, 5, 6, 7, 8, 9, 10, 12]),
         ("utilizations", &comparison.utilization_answers, vec![0, 5, 6, 7, 8, 9, 10]),
         ("lists", &comparison.totals_answers, vec![0, 7]),
+        ("writer", &comparison.writer_answers, vec![0, 4, 5, 6, 7, 8, 9, 10, 13]),
     ];
     for (name, answers, questions) in lists {
         let few = questions.into_iter().filter(|&question| answers[question] < 20);
@@ -67,10 +76,11 @@ fn main() -> ExitCode {
         println!("not reached: {gaps:#?}");
         return ExitCode::FAILURE;
     }
-    println!("{} cases required, all reached; {:.1?}", required().len(), start.elapsed());
+    let cases = required().len() + required_of_writer().len();
+    println!("{cases} cases required, all reached; {:.1?}", start.elapsed());
     println!(
-        "compared {} schedules, {} built members and {} lists: all equal",
-        comparison.schedules, comparison.built, comparison.lists
+        "compared {} schedules, {} built members, {} lists and {} written schedules: all equal",
+        comparison.schedules, comparison.built, comparison.lists, comparison.written
     );
     ExitCode::SUCCESS
 }

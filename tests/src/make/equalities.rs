@@ -113,7 +113,7 @@ fn link_ratio(records: &mut Vec<Record>) {
         for (grade, code) in GRADES.into_iter().flat_map(|grade| [(grade, 1), (grade, 2)]) {
             let ft = tables::concrete(u64::from(grade)).unwrap().ft;
             let area = legs * tables::area(link).unwrap();
-            let product = 1000 * area * tables::link_steel(code).unwrap();
+            let product = 1000 * area * tables::link_steel(code).unwrap().fyv;
             let equal = divided(product, 24 * ft).unwrap_or(1);
             let mut pairs = factors(equal, 50..=300, 100..=1000, 2);
             for spacing in [50, 87, 149, 200, 300] {

@@ -15,7 +15,8 @@ const FAR: [usize; 8] =
 /// Diameters that no group has.
 const UNLISTED: [u32; 12] = [0, 1, 5, 7, 9, 19, 24, 26, 39, 49, 51, u32::MAX];
 
-fn listed(random: &Random) -> Group {
+/// A group in its range.
+pub fn listed(random: &Random) -> Group {
     Group { diameter: random.pick(&DIAMETERS), bars: random.within(1, 20) as u32 }
 }
 

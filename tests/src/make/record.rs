@@ -147,23 +147,46 @@ impl Record {
         Built { mark: self.mark, kind: self.kind, fields: self.fields }
     }
 
+    /// Which list a field counts, if any: 0 for the first, 1 for the second.
+    fn list_counted_by(&self, field: usize) -> Option<usize> {
+        match (self.kind, field) {
+            (1, place::beam::TENSION) | (2, place::column::GROUPS) => Some(0),
+            (1, place::beam::COMPRESSION) => Some(1),
+            _ => None,
+        }
+    }
+
+    /// The list that a field counts, if any.
+    pub fn list(&self, field: usize) -> Option<&[Group]> {
+        let lists = [&self.first, &self.second];
+        self.list_counted_by(field).map(|list| lists[list].as_slice())
+    }
+
     /// The schedule's numbers of this member: groups follow their count.
     pub fn numbers(&self) -> Vec<u32> {
         let mut numbers = vec![self.mark, self.kind];
-        let lists = match self.kind {
-            1 => {
-                vec![(place::beam::TENSION, &self.first), (place::beam::COMPRESSION, &self.second)]
-            }
-            2 => vec![(place::column::GROUPS, &self.first)],
-            _ => Vec::new(),
-        };
         for field in 0..self.field_count() {
             numbers.push(self.fields[field]);
-            if let Some((_, list)) = lists.iter().find(|(count, _)| *count == field) {
-                numbers.extend(list.iter().flat_map(|group| [group.diameter, group.bars]));
+            for group in self.list(field).into_iter().flatten() {
+                numbers.extend([group.diameter, group.bars]);
             }
         }
         numbers
+    }
+
+    /// The member that a schedule's next numbers are.
+    fn next(numbers: &mut impl Iterator<Item = u32>) -> Self {
+        let mut next = || numbers.next().expect("a number");
+        let mut record = Record::new(next(), next(), &[]);
+        for field in 0..record.field_count() {
+            let number = next();
+            record.fields[field] = number;
+            if let Some(list) = record.list_counted_by(field) {
+                let groups = (0..number).map(|_| Group { diameter: next(), bars: next() });
+                [&mut record.first, &mut record.second][list].extend(groups);
+            }
+        }
+        record
     }
 
     /// The member, where it is accepted as the only one of a schedule.
@@ -192,4 +215,14 @@ pub fn encode(records: &[Record]) -> Vec<u8> {
         }
     }
     bytes
+}
+
+/// The members of an accepted schedule.
+pub fn decode(bytes: &[u8]) -> Vec<Record> {
+    let numbers = bytes.split_inclusive(|byte| *byte < 0x80);
+    let mut numbers = numbers.map(|groups| {
+        groups.iter().rev().fold(0, |value, group| value << 7 | u32::from(group & 0x7f))
+    });
+    let count = numbers.next().expect("a count");
+    (0..count).map(|_| Record::next(&mut numbers)).collect()
 }

@@ -1,4 +1,7 @@
-//! Vectors for another test program: some 300 members that reach every case, damaged schedules, and one vector that is wrong on purpose.
+//! Vectors for another test program: some 300 members that reach every case, read and written, damaged schedules, refused lists,
+//! and two vectors that are wrong on purpose.
+
+mod lists;
 
 use std::collections::{BTreeMap, BTreeSet};
 
@@ -7,14 +10,16 @@ use super::{
     damage, encode, equalities, hugging_members, hunts, random_member, renumber, Random, Record,
 };
 use crate::branches::{required, Case, Tally};
-use crate::model::report;
+use crate::model::report::report;
+use crate::model::schedule::Refusal;
+use crate::model::writing::write_schedule;
 
 /// Members, and how many schedules have the same refusal.
 pub const MEMBERS: usize = 300;
 const ALIKE: usize = 8;
 
 /// The bytes that the program `vectors` reads.
-const ROOM: usize = 200_000;
+const ROOM: usize = 250_000;
 
 /// The cases that a record reaches, if it is accepted.
 fn cases(record: &Record) -> Option<Vec<Case>> {
@@ -59,14 +64,29 @@ pub fn members(random: &Random) -> Vec<Record> {
     kept
 }
 
+/// The text in the buffer, or the refusal.
+fn shown(answer: Result<usize, Refusal>, mut buffer: Vec<u8>) -> Vec<u8> {
+    match answer {
+        Ok(length) => buffer.truncate(length),
+        Err(no) => buffer = format!("refused {} member {}\n", no.question, no.member).into_bytes(),
+    }
+    buffer
+}
+
 /// What the report program prints for a schedule's bytes.
 pub fn printed(schedule: &[u8]) -> Vec<u8> {
     let mut text = vec![0; 64_000];
-    match report::report(schedule, &mut text) {
-        Ok(length) => text.truncate(length),
-        Err(no) => text = format!("refused {} member {}\n", no.question, no.member).into_bytes(),
-    }
-    text
+    shown(report(schedule, &mut text), text)
+}
+
+/// The file of the words in these bytes, or the refusal. Bytes left over are no word.
+fn written(given: &[u8]) -> Vec<u8> {
+    let words: Vec<u32> = given
+        .chunks_exact(4)
+        .map(|word| u32::from_le_bytes(word.try_into().expect("four bytes")))
+        .collect();
+    let mut file = vec![0; 60_000];
+    shown(write_schedule(&words, words.len(), &mut file), file)
 }
 
 /// Refused schedules: of three members with a number or a byte damaged, and of one member past a question's edge.
@@ -92,40 +112,63 @@ fn refused(members: &[Record], random: &Random) -> Vec<Vec<u8>> {
 }
 
 /// Each member alone, all of them, none, and refused ones.
-fn schedules(random: &Random) -> Vec<Vec<u8>> {
-    let members = members(random);
-    let mut schedules: Vec<Vec<u8>> = members.iter().map(|one| encode(&[one.clone()])).collect();
-    schedules.push(encode(&members));
+fn schedules(members: &[Record], random: &Random) -> Vec<Vec<u8>> {
+    let mut schedules: Vec<Vec<u8>> =
+        members.iter().map(|one| encode(std::slice::from_ref(one))).collect();
+    schedules.push(encode(members));
     schedules.push(vec![0]);
-    schedules.extend(refused(&members, random));
+    schedules.extend(refused(members, random));
     schedules
 }
 
-/// Appends a schedule and the text expected, each after its length in two bytes, low byte first.
-fn put_vector(row: &mut Vec<u8>, schedule: &[u8], text: &[u8]) {
-    for part in [schedule, text] {
-        let length = u16::try_from(part.len()).expect("a part of at most 65,535 bytes");
-        row.extend(length.to_le_bytes());
-        row.extend(part);
+/// A schedule and what is printed for it, or words and what is written for them.
+#[derive(Clone)]
+struct Vector {
+    form: u8,
+    given: Vec<u8>,
+    text: Vec<u8>,
+}
+
+impl Vector {
+    fn of_schedule(given: Vec<u8>) -> Self {
+        Self { form: 0, text: printed(&given), given }
+    }
+
+    fn of_words(given: Vec<u8>) -> Self {
+        Self { form: 1, text: written(&given), given }
+    }
+
+    /// With the last byte but one changed: in a report the last before the line's end.
+    fn wrong(mut self) -> Self {
+        let place = self.text.len() - 2;
+        self.text[place] ^= 1;
+        self
+    }
+
+    /// Appends the form and both parts, each after its length in two bytes, low byte first.
+    fn put(&self, row: &mut Vec<u8>) {
+        row.push(self.form);
+        for part in [&self.given, &self.text] {
+            let length = u16::try_from(part.len()).expect("a part of at most 65,535 bytes");
+            row.extend(length.to_le_bytes());
+            row.extend(part);
+        }
     }
 }
 
-/// The text of a schedule with its last character changed, before the line's end.
-fn wrong(schedule: &[u8]) -> Vec<u8> {
-    let mut text = printed(schedule);
-    let last = text.len() - 2;
-    text[last] ^= 1;
-    text
-}
-
-/// A row of vectors and how many there are. The last one's text is wrong on purpose: whoever compares must count one unequal.
+/// A row of vectors and how many there are. The last two texts are wrong on purpose: whoever compares must count two unequal.
 pub fn vectors(random: &Random) -> (usize, Vec<u8>) {
-    let schedules = schedules(random);
+    let members = members(random);
+    let schedules = schedules(&members, random).into_iter().map(Vector::of_schedule);
+    let mut vectors: Vec<Vector> = schedules.collect();
+    let first_list = vectors.len();
+    vectors.extend(lists::lists(&members, random).into_iter().map(Vector::of_words));
+    vectors.push(vectors[first_list].clone().wrong());
+    vectors.push(vectors[0].clone().wrong());
     let mut row = Vec::new();
-    for schedule in &schedules {
-        put_vector(&mut row, schedule, &printed(schedule));
+    for vector in &vectors {
+        vector.put(&mut row);
     }
-    put_vector(&mut row, &schedules[0], &wrong(&schedules[0]));
     assert!(row.len() <= ROOM, "{} bytes", row.len());
-    (schedules.len() + 1, row)
+    (vectors.len(), row)
 }

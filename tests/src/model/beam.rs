@@ -2,7 +2,7 @@
 
 use super::member::{Bars, No, Numbers};
 use super::outcome::{Check, Outcome};
-use super::tables::{self, Concrete, Steel};
+use super::tables::{self, Concrete, LinkSteel, Steel};
 
 #[derive(Clone, Copy, Debug, PartialEq, Eq)]
 pub struct Beam {
@@ -22,8 +22,7 @@ pub struct Beam {
     pub link_diameter: u64,
     pub legs: u64,
     pub spacing: u64,
-    /// Link strength fyv.
-    pub fyv: u64,
+    pub link_steel: &'static LinkSteel,
     /// Cover c of the outermost tension bars.
     pub cover: u64,
     pub span: u64,
@@ -64,7 +63,7 @@ impl Beam {
             link_diameter: numbers.link_diameter()?,
             legs: numbers.within(2, 8)?,
             spacing: numbers.within(50, 400)?,
-            fyv: tables::link_steel(numbers.number()?).ok_or(7u32)?,
+            link_steel: tables::link_steel(numbers.number()?).ok_or(7u32)?,
             cover: numbers.within(15, 200)?,
             span: numbers.within(1000, 12_000)?,
             moment: numbers.within(0, 100_000_000)?,
@@ -164,7 +163,7 @@ impl Beam {
 
     /// 4.3.3: shear capacity, N.
     pub fn shear_capacity(&self) -> u64 {
-        let links = self.fyv * self.link_area() * self.h0() / (10 * self.spacing);
+        let links = self.link_steel.fyv * self.link_area() * self.h0() / (10 * self.spacing);
         self.concrete_shear() / 1000 + links
     }
 
@@ -196,7 +195,8 @@ impl Beam {
     /// 5.5.6r: least links where V asks for them.
     pub fn has_minimum_links(&self) -> bool {
         !self.needs_links()
-            || 1000 * self.link_area() * self.fyv >= 24 * self.concrete.ft * self.b * self.spacing
+            || 1000 * self.link_area() * self.link_steel.fyv
+                >= 24 * self.concrete.ft * self.b * self.spacing
     }
 
     /// 4.4.1: steel stress at most fyk.

@@ -50,7 +50,7 @@ impl Numbers for Lent<'_> {
 }
 
 /// The first `count` groups of a lent list (7).
-fn named(list: &[Group], count: usize) -> Result<Bars, No> {
+pub(super) fn named(list: &[Group], count: usize) -> Result<Bars, No> {
     let mut bars = Bars::default();
     for group in list.get(..count).ok_or(7u32)? {
         let (diameter, count) = (u64::from(group.diameter), u64::from(group.bars));

@@ -1,8 +1,9 @@
-//! The checker by document 01's steps.
+//! The checker by document 01's steps, and the writer of document 02.
 
 pub mod beam;
 pub mod built;
 pub mod column;
+pub mod held;
 pub mod member;
 pub mod mesh;
 pub mod outcome;
@@ -10,3 +11,4 @@ pub mod report;
 pub mod schedule;
 pub mod tables;
 pub mod utilization;
+pub mod writing;

@@ -10,17 +10,17 @@ const LONGEST_LINE: usize = 6 + 8 + 4 * 21 + 1;
 /// `members 500` and a newline.
 const LONGEST_HEADING: usize = 12;
 
-/// Writes text into a buffer known to be long enough.
-struct Writer<'a> {
+/// Writes bytes into a buffer known to be long enough.
+pub(super) struct Writer<'a> {
     out: &'a mut [u8],
     length: usize,
 }
 
 impl Writer<'_> {
     #[inline]
-    fn put(&mut self, text: &[u8]) {
-        let end = self.length + text.len();
-        self.out[self.length..end].copy_from_slice(text);
+    pub(super) fn put(&mut self, bytes: &[u8]) {
+        let end = self.length + bytes.len();
+        self.out[self.length..end].copy_from_slice(bytes);
         self.length = end;
     }
 
@@ -64,18 +64,22 @@ impl Writer<'_> {
     }
 }
 
-/// Writes a text of at most `longest` bytes into `out`, or answers None and leaves `out` alone.
-fn write_whole(out: &mut [u8], longest: usize, write: impl Fn(&mut Writer)) -> Option<usize> {
+/// Writes at most `longest` bytes into `out`, or answers None and leaves `out` alone.
+pub(super) fn write_whole(
+    out: &mut [u8],
+    longest: usize,
+    write: impl Fn(&mut Writer),
+) -> Option<usize> {
     if out.len() >= longest {
         let mut writer = Writer { out, length: 0 };
         write(&mut writer);
         return Some(writer.length);
     }
-    let mut text = vec![0; longest];
-    let mut writer = Writer { out: &mut text, length: 0 };
+    let mut bytes = vec![0; longest];
+    let mut writer = Writer { out: &mut bytes, length: 0 };
     write(&mut writer);
     let length = writer.length;
-    out.get_mut(..length)?.copy_from_slice(&text[..length]);
+    out.get_mut(..length)?.copy_from_slice(&bytes[..length]);
     Some(length)
 }
 

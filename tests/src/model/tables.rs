@@ -62,6 +62,7 @@ pub fn concrete(grade: u64) -> Option<&'static Concrete> {
 /// Strengths of the longitudinal steel, N/mm².
 #[derive(Debug, PartialEq, Eq)]
 pub struct Steel {
+    pub code: u64,
     pub fyk: u64,
     /// Design strength in tension and, in beams, in compression.
     pub fy: u64,
@@ -71,8 +72,8 @@ pub struct Steel {
     pub depth: u64,
 }
 
-static HRB400: Steel = Steel { fyk: 400, fy: 360, axial: 360, depth: 52 };
-static HRB500: Steel = Steel { fyk: 500, fy: 435, axial: 400, depth: 48 };
+static HRB400: Steel = Steel { code: 1, fyk: 400, fy: 360, axial: 360, depth: 52 };
+static HRB500: Steel = Steel { code: 2, fyk: 500, fy: 435, axial: 400, depth: 48 };
 
 pub fn steel(code: u64) -> Option<&'static Steel> {
     match code {
@@ -82,11 +83,21 @@ pub fn steel(code: u64) -> Option<&'static Steel> {
     }
 }
 
-/// fyv of a link steel, N/mm²: HPB300, HRB400.
-pub fn link_steel(code: u64) -> Option<u64> {
+/// A link steel.
+#[derive(Debug, PartialEq, Eq)]
+pub struct LinkSteel {
+    pub code: u64,
+    /// N/mm².
+    pub fyv: u64,
+}
+
+static HPB300_LINKS: LinkSteel = LinkSteel { code: 1, fyv: 270 };
+static HRB400_LINKS: LinkSteel = LinkSteel { code: 2, fyv: 360 };
+
+pub fn link_steel(code: u64) -> Option<&'static LinkSteel> {
     match code {
-        1 => Some(270),
-        2 => Some(360),
+        1 => Some(&HPB300_LINKS),
+        2 => Some(&HRB400_LINKS),
         _ => None,
     }
 }

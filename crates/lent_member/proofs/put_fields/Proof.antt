@@ -4,8 +4,8 @@ use mathlib.Core.Path.{_≡_, refl, sym, _∙_}
 use lib.Seq.{sets}
 use native.Mathlib.Omega.{arith}
 use borrow.Author.Needs.{needs}
-use Rattle.lent_member.specs.LentSlots.{part}
-use Rattle.lent_member.proofs.Placed.{field-stored, none-left}
+use Rattle.field_layout.specs.Layout.{part}
+use Rattle.field_layout.proofs.Part.{one-stored, none-left}
 use Rattle.lent_member.proofs.put_fields.Statement.{statement}
 use Rattle.lent_member.proofs.put_fields.Tie as tie
 
@@ -27,7 +27,7 @@ array-write-v c = omega (arith, c .before .loop .inv .0, c .loop-test .taken)
 loop-again : tie.Need-loop-again Inv-loop μ-loop
 loop-again c =
     let l = c .before .loop in
-    (omega (arith, l .inv .0, c .loop-test .taken), omega (arith, l .inv .1, c .loop-test .taken), field-stored (l .v) (c .before .before .before .before .args .x .v) (l .p) (l .f) (l .left) (c .loop-test .taken) ∙ l .inv .2)
+    (omega (arith, l .inv .0, c .loop-test .taken), omega (arith, l .inv .1, c .loop-test .taken), one-stored (l .v) (c .before .before .before .before .args .x .v) (l .p) (l .f) (l .left) (c .loop-test .taken) ∙ l .inv .2)
 
 returns : tie.Need-returns Inv-loop μ-loop
 returns c =

@@ -5,7 +5,7 @@ use Prim.Native.Nat.{_+_, _-_, _*_, _^_, _≤_, _<_}
 use native.Mathlib.Omega.{arith}
 use borrow.Author.Needs.{needs}
 use Rattle.varint.specs.Varint.{septetsAt}
-use Rattle.varint.proofs.Septets.{file-ends, last-septet-at, group-follows, none-left, weight, weight-next, below}
+use Rattle.varint.proofs.Septets.{file-ends, last-septet-at, septet-follows, none-left, weight, weight-next, below}
 use Rattle.varint.proofs.long_number.Statement.{statement}
 use Rattle.varint.proofs.long_number.Tie as tie
 
@@ -69,7 +69,7 @@ loop-again c =
       rw (l .inv .1) (weight-next (l .left) t (omega arith)),
       sum c,
       omega (arith, l .inv .3),
-      l .inv .4 ∙ group-follows _ _ _ _ _ t _ (w .widen .ensures) (w .before .before .if1 .left) (c .if2 .left),
+      l .inv .4 ∙ septet-follows _ _ _ _ _ t _ (w .widen .ensures) (w .before .before .if1 .left) (c .if2 .left),
     )
 
 returns-3 : tie.Need-returns-3 Inv-loop μ-loop

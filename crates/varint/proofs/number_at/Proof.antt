@@ -4,7 +4,7 @@ use Prim.Native.Nat.{_+_, _<_}
 use native.Mathlib.Omega.{arith}
 use borrow.Author.Needs.{needs}
 use Rattle.varint.specs.Varint.{numberAt}
-use Rattle.varint.proofs.Septets.{file-ends, only-group, last-septet-at, from-second, second-last, from-third}
+use Rattle.varint.proofs.Septets.{file-ends, only-septet, last-septet-at, from-second, second-last, from-third}
 use Rattle.varint.proofs.number_at.Statement.{statement}
 use Rattle.varint.proofs.number_at.Tie as tie
 
@@ -25,7 +25,7 @@ returns-2 : tie.Need-returns-2
 unfolding numberAt
 returns-2 c =
     let w = c .before in
-    sym (last-septet-at _ 5 _ _ _ (omega arith) _ (w .widen .ensures) (w .before .before .if1 .left) (c .if2 .taken) ∙ only-group _ _ (c .if2 .taken))
+    sym (last-septet-at _ 5 _ _ _ (omega arith) _ (w .widen .ensures) (w .before .before .if1 .left) (c .if2 .taken) ∙ only-septet _ _ (c .if2 .taken))
 
 returns-3 : tie.Need-returns-3
 returns-3 c =

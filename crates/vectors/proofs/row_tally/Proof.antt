@@ -57,6 +57,7 @@ row-tally-spec =
     (λ c κs. search needs)
     add-equal
     (λ c. search needs)
+    (λ c. search needs)
     (λ c κs. search needs)
     (λ c κs. search needs)
     (λ c. search needs)

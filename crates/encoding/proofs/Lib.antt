@@ -1,0 +1,2 @@
+pub mod Septets
+pub mod Rows

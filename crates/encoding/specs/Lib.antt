@@ -1,0 +1,2 @@
+pub mod ScheduleBytes
+pub mod FieldNumbers

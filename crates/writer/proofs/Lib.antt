@@ -1,0 +1,3 @@
+pub mod Records
+pub mod Questions
+pub mod Written

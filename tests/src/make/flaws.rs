@@ -1,0 +1,100 @@
+//! Members that are refused by a question of one's choice.
+
+use super::beams::total;
+use super::record::place::{beam, column, mesh};
+use super::record::Record;
+use super::words::{of_record, KIND};
+use super::Random;
+use crate::model::built::Group;
+
+/// The questions put to a member.
+pub const QUESTIONS: [u32; 6] = [5, 6, 7, 8, 9, 10];
+
+/// Fields that no other flaw changes, out of their range.
+fn out_of_range(kind: u32, random: &Random) -> (usize, u32) {
+    match kind {
+        1 => random.pick(&[
+            (beam::B, 99),
+            (beam::LEGS, 9),
+            (beam::ENVIRONMENT, 0),
+            (beam::STRICT, 2),
+            (beam::STRICT, u32::MAX),
+        ]),
+        2 => random.pick(&[
+            (column::STEEL, 3),
+            (column::LINK, 7),
+            (column::LENGTH, 499),
+            (column::AXIAL, 1_000_000_001),
+        ]),
+        _ => random.pick(&[
+            (mesh::FAMILY, 0),
+            (mesh::DIAMETER, 18),
+            (mesh::SEISMIC, 5),
+            (mesh::LAP_GIVEN, 100_001),
+        ]),
+    }
+}
+
+/// Fields that do not fit together.
+fn inconsistent(record: &mut Record) {
+    match record.kind {
+        1 => record.fields[beam::COVER] = record.fields[beam::AS],
+        2 => record.fields[column::B..=column::H].copy_from_slice(&[301, 300]),
+        _ => {
+            record.fields[mesh::CROSS] = 1;
+            record.fields[mesh::APART] = 1;
+        }
+    }
+}
+
+/// 41 bars of the list's first diameter.
+fn too_many_bars(list: &mut Vec<Group>) {
+    let diameter = list[0].diameter;
+    *list = [20, 20, 1].map(|bars| Group { diameter, bars }).to_vec();
+}
+
+/// The most bars of the largest diameter.
+const THICK: [Group; 2] = [Group { diameter: 50, bars: 20 }; 2];
+
+/// b·h0 of a beam.
+fn effective_area(record: &Record) -> u64 {
+    let depth = record.fields[beam::H] - record.fields[beam::AS];
+    u64::from(record.fields[beam::B]) * u64::from(depth)
+}
+
+/// Puts a no to the question into a member, if its kind can have one. Flaws of later questions that it
+/// already has stay.
+pub fn flaw(record: &mut Record, question: u32, random: &Random) -> bool {
+    match (question, record.kind) {
+        (5, _) => record.mark = random.pick(&[0, 1_000_000, 1 << 20, u32::MAX]),
+        (6, _) => record.kind = random.pick(&[0, 4, 5, 257, 258, 1 << 31, u32::MAX]),
+        (7, kind) => {
+            let (field, value) = out_of_range(kind, random);
+            record.fields[field] = value;
+        }
+        (8, _) => inconsistent(record),
+        (9, 1) if !record.second.is_empty() && random.one_in(2) => {
+            too_many_bars(&mut record.second);
+        }
+        (9, 1 | 2) => too_many_bars(&mut record.first),
+        (10, 1) if 2 * effective_area(record) < 5 * total(&THICK) => record.first = THICK.to_vec(),
+        _ => return false,
+    }
+    if question > 8 {
+        record.count_groups();
+    }
+    true
+}
+
+/// The words of the member with a no to each of these questions, which rise, if its kind can have
+/// them. Under an unknown kind the words are those of the known one.
+pub fn flawed(record: &Record, questions: &[u32], random: &Random) -> Option<Vec<u32>> {
+    let mut flawed = record.clone();
+    if !questions.iter().rev().all(|&question| flaw(&mut flawed, question, random)) {
+        return None;
+    }
+    let kind = std::mem::replace(&mut flawed.kind, record.kind);
+    let mut words = of_record(&flawed, random);
+    words[KIND] = kind;
+    Some(words)
+}
