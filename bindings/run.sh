@@ -1,8 +1,8 @@
 #!/bin/sh
 # Proves and builds the static library. Compiles the C example as C99 and as C11, and the header alone as C++11, without a
 # warning; builds the Rust example. Runs the C99 and the Rust example on document 01's schedule: both must print
-# bindings/expected. Tests where the Rust wrapper puts each field of a record. The C header and the Rust wrapper must state
-# the same version.
+# bindings/expected. Tests where the Rust wrapper puts each field of a member and of a record. The C header and the Rust
+# wrapper must state the same version.
 set -eu
 here=$(cd "$(dirname "$0")" && pwd)
 root=$here/..

@@ -1,6 +1,6 @@
 /* Document 01's beam 1 built by a caller: its line, its utilizations and the totals of its bars. Then the schedule on standard
  * input, reported. Then document 01's three members held as records: written, compared with standard input, reported; and
- * what the writer refuses. */
+ * what the writer refuses. Then beam 1 as a point-loaded beam, built and held. */
 #include <inttypes.h>
 #include <stdio.h>
 #include <string.h>
@@ -136,6 +136,23 @@ static void show_records(const uint8_t *schedule, size_t length, uint8_t *out, s
     print_written(koxaltes_write_records(many, KOXALTES_MOST_MEMBERS + 1, file, sizeof file), file, schedule, length);
 }
 
+/* The load is 1000 mm from the support. */
+static void show_point_load(uint8_t *out, size_t out_length) {
+    static uint8_t file[KOXALTES_LONGEST_FILE];
+    koxaltes_member m = beam();
+    m.kind = KOXALTES_POINT_LOADED_BEAM;
+    m.fields[KOXALTES_BEAM_LOAD_DISTANCE] = 1000;
+    print(koxaltes_member_report(m, tension, 1, none, 0, out, out_length), out);
+    koxaltes_record r = {.mark = 1, .kind = KOXALTES_POINT_LOADED_BEAM};
+    r.fields.point_loaded_beam.beam = records[0].fields.beam;
+    r.fields.point_loaded_beam.load_distance = 1000;
+    koxaltes_answer a = koxaltes_write_records(&r, 1, file, sizeof file);
+    print(a.question == KOXALTES_ACCEPTED ? koxaltes_report(file, a.length, out, out_length) : a, out);
+    /* a load beyond the span: KOXALTES_REFUSED_CONSISTENCY */
+    r.fields.point_loaded_beam.load_distance = 6001;
+    print(koxaltes_write_records(&r, 1, file, sizeof file), file);
+}
+
 int main(void) {
     /* one byte more than a schedule may have, so that a longer one is refused and not cut */
     static uint8_t schedule[KOXALTES_LONGEST_SCHEDULE + 1];
@@ -144,5 +161,6 @@ int main(void) {
     size_t length = fread(schedule, 1, sizeof schedule, stdin);
     print(koxaltes_report(schedule, length, out, sizeof out), out);
     show_records(schedule, length, out, sizeof out);
+    show_point_load(out, sizeof out);
     return 0;
 }

@@ -23,10 +23,11 @@
  * PATCH: nothing of this changed. MINOR: something was added, and what a program did before still gives what it gave.
  * MAJOR: something changed or went; compile again and read the manual again. While MAJOR is 0, a new MINOR may do the same.
  * A program meets an added question or word as a number or word that it does not know, and must take it for a refusal or for
- * a failed check. The archive does not hold its version: use the header and the archive of one checkout. */
-#define KOXALTES_VERSION "0.2.0"
+ * a failed check. An added kind is accepted where it was refused as unknown, and a limit may grow with it. The archive does
+ * not hold its version: use the header and the archive of one checkout. */
+#define KOXALTES_VERSION "0.3.0"
 #define KOXALTES_VERSION_MAJOR 0
-#define KOXALTES_VERSION_MINOR 2
+#define KOXALTES_VERSION_MINOR 3
 #define KOXALTES_VERSION_PATCH 0
 
 #ifdef __cplusplus
@@ -57,7 +58,7 @@ enum {
  * KOXALTES_LONGEST_LINE. */
 enum {
     KOXALTES_LONGEST_SCHEDULE = 60000,
-    KOXALTES_LONGEST_FILE = 29502,
+    KOXALTES_LONGEST_FILE = 30502,
     KOXALTES_LONGEST_REPORT = 27555,
     KOXALTES_LONGEST_LINE = 55,
     KOXALTES_MOST_MEMBERS = 500,
@@ -70,12 +71,12 @@ typedef struct {
     uint32_t bars;
 } koxaltes_group;
 
-/* Kinds of members. */
-enum { KOXALTES_BEAM = 1, KOXALTES_COLUMN = 2, KOXALTES_MESH = 3 };
+/* Kinds of members. A point-loaded beam is a beam with one field more; what is said of beams holds of it, too. */
+enum { KOXALTES_BEAM = 1, KOXALTES_COLUMN = 2, KOXALTES_MESH = 3, KOXALTES_POINT_LOADED_BEAM = 4 };
 
 enum { KOXALTES_FIELDS = 24 };
 
-/* Places in `fields`, by kind. Lengths in mm, M and MQ in N m, V and N in N. */
+/* Places in `fields`, by kind; those of a beam serve both kinds of beams. Lengths in mm, M and MQ in N m, V and N in N. */
 enum {
     KOXALTES_BEAM_B,
     KOXALTES_BEAM_H,
@@ -97,7 +98,10 @@ enum {
     KOXALTES_BEAM_MQ,
     KOXALTES_BEAM_V,
     KOXALTES_BEAM_ENVIRONMENT,
-    KOXALTES_BEAM_STRICT
+    KOXALTES_BEAM_STRICT,
+    /* a, of KOXALTES_POINT_LOADED_BEAM alone: from the load to the support. 0 is accepted: a load at the support, with the shear
+     * capacity that a uniform load has. KOXALTES_BEAM does not read it. */
+    KOXALTES_BEAM_LOAD_DISTANCE
 };
 
 enum {
@@ -166,6 +170,11 @@ typedef struct {
 } koxaltes_beam_record;
 
 typedef struct {
+    koxaltes_beam_record beam;
+    uint32_t load_distance; /* as KOXALTES_BEAM_LOAD_DISTANCE */
+} koxaltes_point_loaded_beam_record;
+
+typedef struct {
     uint32_t b;
     uint32_t h;
     uint32_t concrete;
@@ -200,6 +209,7 @@ typedef struct {
         koxaltes_beam_record beam;
         koxaltes_column_record column;
         koxaltes_mesh_record mesh;
+        koxaltes_point_loaded_beam_record point_loaded_beam;
         uint32_t slots[KOXALTES_SLOTS];
     } fields;
 } koxaltes_record;
@@ -298,7 +308,7 @@ KOXALTES_KEEPS(sizeof(koxaltes_member) == 104 && offsetof(koxaltes_member, kind)
 KOXALTES_KEEPS(offsetof(koxaltes_member, fields) == 8);
 #define KOXALTES_SLOT(kind, field) (offsetof(koxaltes_##kind##_record, field) / 4)
 KOXALTES_KEEPS(sizeof(koxaltes_beam_record) == 4 * 37 && sizeof(koxaltes_column_record) == 4 * 17);
-KOXALTES_KEEPS(sizeof(koxaltes_mesh_record) == 4 * 11);
+KOXALTES_KEEPS(sizeof(koxaltes_mesh_record) == 4 * 11 && sizeof(koxaltes_point_loaded_beam_record) == 4 * 38);
 KOXALTES_KEEPS(KOXALTES_SLOT(beam, h) == 1 && KOXALTES_SLOT(beam, bf) == 2 && KOXALTES_SLOT(beam, hf) == 3);
 KOXALTES_KEEPS(KOXALTES_SLOT(beam, tension_distance) == 4 && KOXALTES_SLOT(beam, compression_distance) == 5);
 KOXALTES_KEEPS(KOXALTES_SLOT(beam, concrete) == 6 && KOXALTES_SLOT(beam, steel) == 7);
@@ -319,6 +329,7 @@ KOXALTES_KEEPS(KOXALTES_SLOT(mesh, cross_bar) == 3 && KOXALTES_SLOT(mesh, paired
 KOXALTES_KEEPS(KOXALTES_SLOT(mesh, apart) == 5 && KOXALTES_SLOT(mesh, seismic) == 6 && KOXALTES_SLOT(mesh, lap) == 7);
 KOXALTES_KEEPS(KOXALTES_SLOT(mesh, compression) == 8 && KOXALTES_SLOT(mesh, anchorage_given) == 9);
 KOXALTES_KEEPS(KOXALTES_SLOT(mesh, lap_given) == 10);
+KOXALTES_KEEPS(KOXALTES_SLOT(point_loaded_beam, beam) == 0 && KOXALTES_SLOT(point_loaded_beam, load_distance) == 37);
 #undef KOXALTES_SLOT
 KOXALTES_KEEPS(sizeof(koxaltes_record) == 4 * KOXALTES_RECORD_WORDS && offsetof(koxaltes_record, kind) == 4);
 KOXALTES_KEEPS(offsetof(koxaltes_record, fields) == 8);

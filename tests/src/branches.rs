@@ -1,5 +1,6 @@
-//! Which cases of document 01 the compared members reached.
+//! Which cases of document 01 the compared members reached, and of what the requests add.
 
+mod points;
 mod written;
 
 use std::collections::BTreeMap;
@@ -12,6 +13,7 @@ use crate::model::member::{Body, Member};
 use crate::model::mesh::{Mesh, SCALE};
 use crate::model::outcome::{Check, Outcome};
 
+pub use points::{point_load_cases, required_of_point_loads, Entry};
 pub use written::required_of_writer;
 
 /// A case: what it is about, and which of its variants.
@@ -55,14 +57,17 @@ impl Tally {
         required.into_iter().filter(|case| self.count(*case) == 0).collect()
     }
 
-    /// Notes the cases that a member's checks went through.
+    /// Notes the cases that a member's checks went through. Those of kind 4 are its own.
     pub fn note(&mut self, member: &Member, outcome: &Outcome) {
         match outcome.failed {
-            Some(check) => self.add(check.name(), 0),
-            None => self.add("OK", kind(member)),
+            Some(check) => self.add(check.name(), if member.kind() == 4 { 4 } else { 0 }),
+            None => self.add("OK", member.kind()),
         }
         match &member.body {
-            Body::Beam(beam) => self.beam(beam, outcome),
+            Body::Beam(beam) => match beam.load_distance {
+                Some(distance) => self.point_loaded(beam, distance, outcome),
+                None => self.beam(beam, outcome),
+            },
             Body::Column(column) => self.column(column, outcome),
             Body::Mesh(mesh) => self.mesh(mesh, outcome),
         }
@@ -310,15 +315,7 @@ fn mesh_row(mesh: &Mesh, cross_bar: bool) -> u64 {
     1000 * mesh.family + 100 * u64::from(cross_bar) + mesh.concrete.grade.min(40)
 }
 
-fn kind(member: &Member) -> u64 {
-    match member.body {
-        Body::Beam(_) => 1,
-        Body::Column(_) => 2,
-        Body::Mesh(_) => 3,
-    }
-}
-
-/// Every case that a comparison is to reach.
+/// Every case of the kinds 1 to 3 that a comparison is to reach.
 pub fn required() -> Vec<Case> {
     let mut cases: Vec<Case> = Check::ALL.iter().map(|check| (check.name(), 0)).collect();
     let mut put = |about, variants: &[u64]| {

@@ -102,12 +102,25 @@ fn moment(beam: &Beam) -> (&'static str, Fraction) {
     }
 }
 
+/// λ = a/h0, held to 1.5-3.
+fn shear_ratio(beam: &Beam, distance: u64) -> Fraction {
+    of(distance, beam.h0()).max(of(15, 10)).min(whole(3))
+}
+
+/// The concrete part of 4.3.3, N: 1.75·ft·b·h0/(λ + 1) under a point load.
+fn concrete_part(beam: &Beam) -> Fraction {
+    let section = of(beam.concrete.ft, 100) * whole(beam.b) * whole(beam.h0());
+    match beam.load_distance {
+        Some(distance) => of(175, 100) * section / (shear_ratio(beam, distance) + whole(1)),
+        None => of(7, 10) * section,
+    }
+}
+
 /// 4.3.3, N.
 fn shear(beam: &Beam) -> Fraction {
-    let (h0, ft) = (whole(beam.h0()), of(beam.concrete.ft, 100));
     let links = whole(beam.legs) * steel_area(tables::area(beam.link_diameter).unwrap());
-    of(7, 10) * ft * whole(beam.b) * h0.clone()
-        + whole(beam.link_steel.fyv) * links * h0 / whole(beam.spacing)
+    let links = whole(beam.link_steel.fyv) * links * whole(beam.h0()) / whole(beam.spacing);
+    concrete_part(beam) + links
 }
 
 /// f = Mq/(0.87·h0·As), N/mm².

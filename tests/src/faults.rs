@@ -1,11 +1,12 @@
 //! The comparison and the claim notice what they are there to notice.
 
+mod points;
 mod written;
 
 use std::os::unix::process::ExitStatusExt;
 use std::process::Command;
 
-use crate::branches::{required, required_of_writer};
+use crate::branches::{required, required_of_point_loads, required_of_writer};
 use crate::claim::check_line;
 use crate::comparison::{Checker, Comparison, Model};
 use crate::guard::{List, Words};
@@ -89,7 +90,7 @@ impl Faulty {
     fn built(&self, built: &Built, first: List) -> Built {
         let mut built = *built;
         let count = match built.kind {
-            1 => &mut built.fields[place::beam::TENSION],
+            1 | 4 => &mut built.fields[place::beam::TENSION],
             2 => &mut built.fields[place::column::GROUPS],
             _ => &mut 0,
         };
@@ -219,6 +220,7 @@ fn the_model_equals_itself_and_meets_demand_3() {
     let mut comparison = Comparison::new(Model, &random);
     assert_eq!(runs::quick(&mut comparison, &random), Ok(()));
     assert_eq!(comparison.tally.missing(required()), Vec::new());
+    assert_eq!(comparison.tally.missing(required_of_point_loads()), Vec::new());
     assert_eq!(comparison.writer_tally.missing(required_of_writer()), Vec::new());
     assert!(comparison.totals_answers[0] > 0 && comparison.totals_answers[7] > 0);
 }
@@ -252,7 +254,7 @@ fn the_claim_rejects_moved_figures() {
         };
         assert_eq!(check_line(&member, &words.join(" ")), Ok(()));
         let moves: &[(usize, i64)] = match record.kind {
-            1 => &[(0, 1), (0, -1), (1, 2), (1, -2), (2, -2), (2, 2), (3, -2), (3, 2)],
+            1 | 4 => &[(0, 1), (0, -1), (1, 2), (1, -2), (2, -2), (2, 2), (3, -2), (3, 2)],
             2 => &[(0, 1), (0, -1)],
             _ => &[(0, 1), (0, -1), (1, 1), (1, -1)],
         };

@@ -1,5 +1,6 @@
 //! Generators of schedules, built members, and lists of groups and of members.
 
+pub mod base;
 pub mod beams;
 pub mod columns;
 pub mod damage;
@@ -9,6 +10,7 @@ pub mod flaws;
 pub mod hunts;
 pub mod lists;
 pub mod meshes;
+pub mod points;
 pub mod random;
 pub mod record;
 pub mod stored;
@@ -19,24 +21,25 @@ pub mod written;
 pub use beams::{hugging_beams, random_beam};
 pub use columns::{hugging_columns, random_column};
 pub use meshes::{hugging_meshes, random_mesh};
+pub use points::random_point_loaded;
 pub use random::Random;
 pub use record::{decode, encode, push_number, Record};
 
 /// A likely accepted member of any kind.
 pub fn random_member(random: &Random) -> Record {
-    match random.below(5) {
-        0..=2 => random_beam(random),
-        3 => random_column(random),
-        _ => random_mesh(random),
+    if random.one_in(4) {
+        random_point_loaded(random)
+    } else {
+        base::random_member(random)
     }
 }
 
 /// A member and its neighbours, with loads and lengths at, below and above the figures.
 pub fn hugging_members(random: &Random) -> Vec<Record> {
-    match random.below(4) {
-        0 | 1 => hugging_beams(&random_beam(random)),
-        2 => hugging_columns(&random_column(random)),
-        _ => hugging_meshes(&random_mesh(random)),
+    if random.one_in(4) {
+        hugging_beams(&random_point_loaded(random))
+    } else {
+        base::hugging_members(random)
     }
 }
 

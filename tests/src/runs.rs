@@ -1,5 +1,6 @@
 //! What a comparison is run on.
 
+pub mod points;
 pub mod written;
 
 use crate::branches::is_family_2_at_c25;
@@ -20,7 +21,8 @@ pub fn all<C: Checker>(
     random_schedules(comparison, random, 6000 * multiplier)?;
     hugging_schedules(comparison, random, 4000 * multiplier)?;
     equality_schedules(comparison, random)?;
-    together(comparison, random, hunts::hunts(random, 20 * multiplier as usize))?;
+    hunted_beams(comparison, random, 20 * multiplier as usize)?;
+    points::point_loads(comparison, random, 1000 * multiplier)?;
     every_mesh(comparison, random)?;
     every_slenderness(comparison, random)?;
     edge_members(comparison, random, 3 * multiplier)?;
@@ -37,7 +39,8 @@ pub fn quick<C: Checker>(comparison: &mut Comparison<C>, random: &Random) -> Out
     random_schedules(comparison, random, 100)?;
     hugging_schedules(comparison, random, 500)?;
     equality_schedules(comparison, random)?;
-    together(comparison, random, hunts::hunts(random, 1))?;
+    hunted_beams(comparison, random, 1)?;
+    points::point_loads(comparison, random, 20)?;
     every_mesh(comparison, random)?;
     every_slenderness(comparison, random)?;
     built_members(comparison, random, 100)?;
@@ -105,6 +108,18 @@ fn equality_schedules<C: Checker>(comparison: &mut Comparison<C>, random: &Rando
     together(comparison, random, records)
 }
 
+/// Beams whose deflection turns on one rounding, under uniform load and under a point load.
+fn hunted_beams<C: Checker>(
+    comparison: &mut Comparison<C>,
+    random: &Random,
+    count: usize,
+) -> Outcome {
+    let mut records = hunts::hunts(random, count);
+    let loaded: Vec<Record> = records.iter().flat_map(make::points::both_ends).collect();
+    records.extend(loaded);
+    together(comparison, random, records)
+}
+
 /// Each mesh there is, with given lengths at the required ones; those of family 2 at C25 also with lengths around them.
 fn every_mesh<C: Checker>(comparison: &mut Comparison<C>, random: &Random) -> Outcome {
     let mut records = meshes::every_mesh();
@@ -142,12 +157,13 @@ fn accepted(make: impl Fn() -> Record, wanted: impl Fn(&Record) -> bool) -> Reco
     }
 }
 
-/// An accepted member of each kind, beams with and without compression bars.
+/// An accepted member of each kind, beams of kind 1 with and without compression bars.
 fn bases(random: &Random) -> Vec<Record> {
     let beam = || beams::random_beam(random);
     vec![
         accepted(beam, |record| record.second.is_empty()),
         accepted(beam, |record| !record.second.is_empty()),
+        accepted(|| make::random_point_loaded(random), |_| true),
         accepted(|| columns::random_column(random), |_| true),
         accepted(|| meshes::random_mesh(random), |_| true),
     ]
@@ -198,7 +214,8 @@ fn damaged_schedules<C: Checker>(
 ) -> Outcome {
     for _ in 0..count {
         let mut records = bases(random);
-        records.rotate_left(random.below(4) as usize);
+        let first = random.below(records.len() as u64) as usize;
+        records.rotate_left(first);
         records.truncate(1 + random.below(4) as usize);
         make::renumber(random, &mut records);
         let bytes = encode(&records);
@@ -242,7 +259,7 @@ fn junk_group(random: &Random) -> Group {
 fn littered(record: &Record, random: &Random) -> Record {
     let mut record = record.clone();
     for field in record.field_count()..record.fields.len() {
-        record.fields[field] = random.next() as u32;
+        record.fields[field] = random.next() as u32 >> random.below(32);
     }
     for _ in 0..random.below(4) {
         record.first.push(junk_group(random));
@@ -250,7 +267,7 @@ fn littered(record: &Record, random: &Random) -> Record {
     }
     match random.below(12) {
         0 => record.mark = random.pick(&[0, 1_000_000, u32::MAX]),
-        1 => record.kind = random.pick(&[0, 4, 5, u32::MAX]),
+        1 => record.kind = random.pick(&[0, 1, 4, 5, 6, u32::MAX]),
         2 => drop(record.first.pop()),
         3 => drop(record.second.pop()),
         4 => record.first.clear(),

@@ -1,10 +1,10 @@
 //! Document 01's beam 1 built by a caller: its line, its utilizations and the totals of its bars. Then the schedule on standard
 //! input, reported. Then document 01's three members held as records: written, compared with standard input, reported; and
-//! what the writer refuses.
+//! what the writer refuses. Then beam 1 as a point-loaded beam, built and held.
 
 use koxaltes::{
-    Beam, Column, Group, Mesh, Question, Record, Refusal, LONGEST_FILE, LONGEST_REPORT,
-    LONGEST_SCHEDULE, MOST_MEMBERS,
+    Beam, Column, Group, Mesh, PointLoadedBeam, Question, Record, Refusal, LONGEST_FILE,
+    LONGEST_REPORT, LONGEST_SCHEDULE, MOST_MEMBERS,
 };
 use std::io::Read;
 
@@ -115,6 +115,20 @@ fn show_records(schedule: &[u8], out: &mut [u8]) {
     print_written(answer, schedule);
 }
 
+/// The load is 1000 mm from the support.
+fn show_point_load(out: &mut [u8]) {
+    let mut buffer = [0; LONGEST_FILE];
+    let loaded = PointLoadedBeam { beam: BEAM, load_distance: 1000 };
+    print(koxaltes::member_report(&loaded.member(1), &TENSION, &[], out));
+    let answer = koxaltes::write_schedule(&[loaded.record(1, &TENSION, &[])], &mut buffer);
+    print(answer.and_then(|file| koxaltes::report(file, out)));
+    // a load beyond the span
+    let beyond = PointLoadedBeam { load_distance: 6001, ..loaded };
+    let answer = koxaltes::write_schedule(&[beyond.record(1, &TENSION, &[])], &mut buffer);
+    assert_eq!(answer.err().and_then(|r| r.named()), Some(Question::Consistency));
+    print(answer);
+}
+
 fn main() {
     let mut out = [0; LONGEST_REPORT];
     show_member(&mut out);
@@ -124,4 +138,5 @@ fn main() {
     input.read_to_end(&mut schedule).expect("standard input is read");
     print(koxaltes::report(&schedule, &mut out));
     show_records(&schedule, &mut out);
+    show_point_load(&mut out);
 }

@@ -18,7 +18,7 @@ pub const VERSION: &str = env!("CARGO_PKG_VERSION");
 /// The longest schedule that is not refused for its size alone (question 1), in bytes.
 pub const LONGEST_SCHEDULE: usize = 60_000;
 /// The longest schedule that is written, in bytes.
-pub const LONGEST_FILE: usize = 29_502;
+pub const LONGEST_FILE: usize = 30_502;
 /// The longest report, and the longest line of one member, in bytes.
 pub const LONGEST_REPORT: usize = 27_555;
 pub const LONGEST_LINE: usize = 55;
@@ -26,7 +26,8 @@ pub const LONGEST_LINE: usize = 55;
 pub const MOST_MEMBERS: usize = 500;
 pub const MOST_GROUPS: usize = 4;
 
-/// The kinds of members, by their numbers.
+/// The kinds of members, by their numbers. A point-loaded beam is a beam with one field more; what is said of beams holds of
+/// it, too.
 #[repr(u32)]
 #[derive(Clone, Copy, Debug, PartialEq, Eq)]
 #[non_exhaustive]
@@ -34,6 +35,7 @@ pub enum Kind {
     Beam = 1,
     Column = 2,
     Mesh = 3,
+    PointLoadedBeam = 4,
 }
 
 /// The questions, by their numbers. Each says what is so where it is answered no.
@@ -128,7 +130,7 @@ pub struct BarTotals {
     pub squares: u64,
 }
 
-/// Kind 1. Lengths in mm, moments in N·m, shear in N.
+/// Kind 1, under a uniform load; also the beam of a `PointLoadedBeam`. Lengths in mm, moments in N·m, shear in N.
 #[derive(Clone, Copy, Debug)]
 pub struct Beam {
     pub b: u32,
@@ -153,6 +155,15 @@ pub struct Beam {
     pub v: u32,
     pub environment: u32,
     pub strict: u32,
+}
+
+/// Kind 4: a beam under a point load. Lengths in mm.
+#[derive(Clone, Copy, Debug)]
+pub struct PointLoadedBeam {
+    pub beam: Beam,
+    /// a: distance from the load to the support, at most `beam.span`. 0 is accepted: a load at the support, with the shear
+    /// capacity that a uniform load has.
+    pub load_distance: u32,
 }
 
 /// Kind 2. Lengths in mm, N in N.
@@ -203,6 +214,12 @@ fn joined(parts: &[&[u32]]) -> [u32; SLOTS] {
     slots
 }
 
+/// The slots of a beam with these fields; each list follows its count, field 8 and 9.
+fn beam_slots(fields: &[u32], first: &[Group], second: &[Group]) -> [u32; SLOTS] {
+    let (first, second) = (group_slots(first, fields[8]), group_slots(second, fields[9]));
+    joined(&[&fields[..9], &first, &fields[9..10], &second, &fields[10..]])
+}
+
 impl Record {
     /// A built member as a record, its lists as for `member_report`: the same member, which is put the same questions and, in
     /// a schedule, that its mark is above the one before. So a count above 4, or above the length of its list, is a no to 7.
@@ -211,15 +228,14 @@ impl Record {
         const BEAM: u32 = Kind::Beam as u32;
         const COLUMN: u32 = Kind::Column as u32;
         const MESH: u32 = Kind::Mesh as u32;
+        const POINT_LOADED_BEAM: u32 = Kind::PointLoadedBeam as u32;
         let f = &member.fields;
-        // each list follows its count: field 8 and 9 of a beam, 4 of a column
         let slots = match member.kind {
-            BEAM => {
-                let (first, second) = (group_slots(first, f[8]), group_slots(second, f[9]));
-                joined(&[&f[..9], &first, &f[9..10], &second, &f[10..21]])
-            }
+            BEAM => beam_slots(&f[..21], first, second),
+            // the list follows its count, field 4
             COLUMN => joined(&[&f[..5], &group_slots(first, f[4]), &f[5..9]]),
             MESH => joined(&[&f[..11]]),
+            POINT_LOADED_BEAM => beam_slots(&f[..22], first, second),
             _ => joined(&[f]),
         };
         Record { mark: member.mark, kind: member.kind, slots }
@@ -233,35 +249,47 @@ fn built(mark: u32, kind: Kind, used: &[u32]) -> Member {
 }
 
 impl Beam {
-    pub fn member(&self, mark: u32) -> Member {
+    fn fields(&self) -> [u32; 21] {
         let x = self;
-        built(
-            mark,
-            Kind::Beam,
-            &[
-                x.b,
-                x.h,
-                x.bf,
-                x.hf,
-                x.tension_distance,
-                x.compression_distance,
-                x.concrete,
-                x.steel,
-                x.tension_groups,
-                x.compression_groups,
-                x.link_diameter,
-                x.legs,
-                x.link_spacing,
-                x.link_steel,
-                x.cover,
-                x.span,
-                x.m,
-                x.mq,
-                x.v,
-                x.environment,
-                x.strict,
-            ],
-        )
+        [
+            x.b,
+            x.h,
+            x.bf,
+            x.hf,
+            x.tension_distance,
+            x.compression_distance,
+            x.concrete,
+            x.steel,
+            x.tension_groups,
+            x.compression_groups,
+            x.link_diameter,
+            x.legs,
+            x.link_spacing,
+            x.link_steel,
+            x.cover,
+            x.span,
+            x.m,
+            x.mq,
+            x.v,
+            x.environment,
+            x.strict,
+        ]
+    }
+
+    pub fn member(&self, mark: u32) -> Member {
+        built(mark, Kind::Beam, &self.fields())
+    }
+
+    /// `Record::of` the member and its tension and compression groups.
+    pub fn record(&self, mark: u32, tension: &[Group], compression: &[Group]) -> Record {
+        Record::of(&self.member(mark), tension, compression)
+    }
+}
+
+impl PointLoadedBeam {
+    pub fn member(&self, mark: u32) -> Member {
+        let fields = [&self.beam.fields()[..], &[self.load_distance]].concat();
+        built(mark, Kind::PointLoadedBeam, &fields)
     }
 
     /// `Record::of` the member and its tension and compression groups.

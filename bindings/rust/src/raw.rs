@@ -3,7 +3,7 @@
 /// What an answer's `question` holds where no question was answered no; the others are `Question`'s numbers.
 pub const ACCEPTED: u32 = 0;
 
-/// Places for a built member's fields; a kind has at most 21.
+/// Places for a built member's fields; a kind has at most 22.
 pub const FIELDS: usize = 24;
 
 /// Slots of a record, and all its words: mark, kind and slots.
@@ -18,7 +18,7 @@ pub struct Group {
     pub bars: u32,
 }
 
-/// A built member without its groups; fields in document 01's order, those past its kind's have no effect.
+/// A built member without its groups; fields in the order of the manual's section 3, those past its kind's have no effect.
 #[repr(C)]
 #[derive(Clone, Copy, Debug, PartialEq, Eq)]
 pub struct Member {

@@ -1,4 +1,4 @@
-//! Where a record has each field, each list's groups after its count.
+//! Where a built member and a record have each field, each list's groups after its count.
 
 use super::*;
 
@@ -25,6 +25,17 @@ fn beam() {
     let slots = record_of(Kind::Beam, &fields, [&groups(200, 4), &groups(300, 4)]);
     let lists = [vec![4], run(200, 8), vec![4], run(300, 8)].concat();
     assert_eq!(slots, [run(100, 8), lists, run(110, 11), vec![0; 3]].concat());
+}
+
+/// The distance of the load follows a beam's fields. Fields past it are left out; of a beam, it is left out, too.
+#[test]
+fn point_loaded_beam() {
+    let fields = [run(100, 8), vec![4, 4], run(110, 14)].concat();
+    for (kind, rest) in [(Kind::Beam, 11), (Kind::PointLoadedBeam, 12)] {
+        let slots = record_of(kind, &fields, [&groups(200, 4), &groups(300, 4)]);
+        let lists = [vec![4], run(200, 8), vec![4], run(300, 8)].concat();
+        assert_eq!(slots, [run(100, 8), lists, run(110, rest), vec![0; 14 - rest]].concat());
+    }
 }
 
 #[test]
@@ -117,4 +128,12 @@ fn named_fields() {
     };
     let slots = beam.record(9, &[], &[]).slots;
     assert_eq!([&slots[..8], &slots[26..37]].concat(), run(100, 19));
+    let point_loaded = PointLoadedBeam { beam, load_distance: 119 };
+    let slots = point_loaded.record(9, &[], &[]).slots;
+    assert_eq!([&slots[..8], &slots[26..38]].concat(), run(100, 20));
+    for (member, kind, rest) in [(beam.member(9), 1, 11), (point_loaded.member(9), 4, 12)] {
+        assert_eq!((member.mark, member.kind), (9, kind));
+        let fields = [run(100, 8), vec![0; 2], run(108, rest), vec![0; 14 - rest]].concat();
+        assert_eq!(member.fields[..], fields);
+    }
 }

@@ -11,7 +11,7 @@ use Rattle.code_tables.specs.Slenderness.{point}
 use Rattle.code_tables.specs.Spacing.{spacingLimit}
 use Rattle.material.specs.Steel.{steelOf, fyvOf}
 use Rattle.bars.specs.Sums.{barCount, area, sumD, sumE, groupArea, groupDiameters, groupSquares}
-use Rattle.consistency.specs.Consistency.{flangeFits, compressionFits, depthFits, beamConsistent, columnConsistent, meshConsistent}
+use Rattle.consistency.specs.Consistency.{flangeFits, compressionFits, depthFits, loadFits, beamConsistent, columnConsistent, meshConsistent}
 use Rattle.reinforcement.specs.Reinforcement.{beamBars, beamRatio, columnBars}
 use Rattle.field_domain.specs.Domain.{isPresent, holds, fieldHolds}
 use Rattle.field_table.specs.Fields.{known, kindOf, fieldsOf}
@@ -50,7 +50,7 @@ use Rattle.writer.specs.Written.{fileOf}
 use Rattle.cases.specs.Cases.{Table}
 
 pub table : Table
-unfolding fileOf heldMembers recordsOf recordsFrom recordAt recordMembers recordVerdict builtVerdict fieldsVerdict scheduleBytes membersBytes memberNumbers beamNumbers columnNumbers meshNumbers bytesOfAll bytesOf septetsOf parseLine parsedFigure lineOf wordOf split splitMore isDecimal every valueOf valueFrom outputOf reportOf textOf endedBy joinedBy decimal digits lentReportOf lentUtilizationOf lentVerdict lentMember lentBeam lentColumn lentFieldsHold namedHold barTotals numberAt septetsAt lastSeptet schedule members member markAt kindAt markRises markInRange memberBody fields field fieldsOf known kindOf isPresent holds areaOf memberVerdict fieldHolds beamVerdict columnVerdict meshVerdict beamConsistent flangeFits compressionFits depthFits beamBars beamRatio columnConsistent columnBars meshConsistent barCount memberAt beamAt columnAt meshAt beamOutcome sectionOutcome fromDepth fromBending fromShear fromSpacing fromLeastLinks fromStress fromWidth fromDeflection sectionOf concreteOf steelOf fyvOf area sumD sumE groupArea groupDiameters groupSquares leastSteel compressionDepth compressionYields yieldedCapacity coupleCapacity bendingCapacity concreteShear linkShear shearCapacity shearAbove linkSpacing leastLinks spacingLimit stressHolds steelStress stiffening meanStress crackSpacing widthOf σ q crackWidth widthLimit flexibility curvature shortTerm longTerm deflectionOf deflection spanDivisor deflectionHolds columnOutcome linksOutcome slendernessOutcome axialOutcome steelFits linksFit slendernessFits axialCapacity stability interval interpolated concreteArea squashLoad point meshOutcome lapOutcome anchorageLength lapLength requiredLap tensionLap basicLength multiple up down clamp beamUtilization columnUtilization meshUtilization overFigure overLimit ratio deflectionLimit quotient ofInt div round lt
+unfolding fileOf heldMembers recordsOf recordsFrom recordAt recordMembers recordVerdict builtVerdict fieldsVerdict scheduleBytes membersBytes memberNumbers beamNumbers columnNumbers meshNumbers bytesOfAll bytesOf septetsOf parseLine parsedFigure lineOf wordOf split splitMore isDecimal every valueOf valueFrom outputOf reportOf textOf endedBy joinedBy decimal digits lentReportOf lentUtilizationOf lentVerdict lentMember lentBeam lentColumn lentFieldsHold namedHold barTotals numberAt septetsAt lastSeptet schedule members member markAt kindAt markRises markInRange memberBody fields field fieldsOf known kindOf isPresent holds areaOf memberVerdict fieldHolds beamVerdict columnVerdict meshVerdict beamConsistent flangeFits compressionFits depthFits loadFits beamBars beamRatio columnConsistent columnBars meshConsistent barCount memberAt beamAt columnAt meshAt beamOutcome sectionOutcome fromDepth fromBending fromShear fromSpacing fromLeastLinks fromStress fromWidth fromDeflection sectionOf concreteOf steelOf fyvOf area sumD sumE groupArea groupDiameters groupSquares leastSteel compressionDepth compressionYields yieldedCapacity coupleCapacity bendingCapacity concreteShear linkShear shearCapacity shearAbove linkSpacing leastLinks spacingLimit stressHolds steelStress stiffening meanStress crackSpacing widthOf σ q crackWidth widthLimit flexibility curvature shortTerm longTerm deflectionOf deflection spanDivisor deflectionHolds columnOutcome linksOutcome slendernessOutcome axialOutcome steelFits linksFit slendernessFits axialCapacity stability interval interpolated concreteArea squashLoad point meshOutcome lapOutcome anchorageLength lapLength requiredLap tensionLap basicLength multiple up down clamp beamUtilization columnUtilization meshUtilization overFigure overLimit ratio deflectionLimit quotient ofInt div round lt
 table =
     record {
       beam-1 = refl;
@@ -65,6 +65,18 @@ table =
       anchorage-short = refl;
       compression = refl;
       compression-above = refl;
+      point-0 = refl;
+      point-689 = refl;
+      point-690 = refl;
+      point-691 = refl;
+      point-1000 = refl;
+      point-exceeded = refl;
+      point-1379 = refl;
+      point-1380 = refl;
+      point-1381 = refl;
+      point-6000 = refl;
+      point-low-shear = refl;
+      point-high-shear = refl;
       stocky = refl;
       slender = refl;
       stability-8 = refl;
@@ -81,7 +93,12 @@ table =
       one-more = refl;
       mark-zero = refl;
       mark-stays = refl;
-      kind-four = refl;
+      kind-five = refl;
+      point-read = refl;
+      point-at-span = refl;
+      point-past-span = refl;
+      point-past-range = refl;
+      point-missing = refl;
       cross-bar-two = refl;
       ends-in-a-field = refl;
       byte-left = refl;
@@ -89,12 +106,15 @@ table =
       passed-parsed = refl;
       failed-parsed = refl;
       placed-beam = refl;
+      placed-point = refl;
       placed-column = refl;
       placed-mesh = refl;
       built-beam = refl;
       built-column = refl;
       built-mesh = refl;
       line-1 = refl;
+      line-point = refl;
+      point-refused = refl;
       line-2 = refl;
       line-3 = refl;
       count-above = refl;
@@ -104,11 +124,13 @@ table =
       works-stacked = refl;
       works-not-at-30 = refl;
       beam-numbers = refl;
+      point-numbers = refl;
       column-numbers = refl;
       mesh-numbers = refl;
       written-three = refl;
       written-unread = refl;
       written-none = refl;
+      written-point = refl;
       mark-again = refl;
       mark-before-kind = refl;
       kind-nine = refl;
@@ -118,6 +140,7 @@ table =
       totals = refl;
       totals-above = refl;
       utilization-1 = refl;
+      utilization-point = refl;
       utilization-2 = refl;
       utilization-3 = refl;
       utilization-none = refl;

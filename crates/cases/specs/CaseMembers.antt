@@ -1,8 +1,11 @@
--- The three members of document 01's printed schedule: by their fields, as a caller builds them, as a schedule's bytes and as words; three whose fields are numbered, to show which stands where; a mesh of family 2.
+-- The three members of document 01's printed schedule: by their fields, as a caller builds them, as a schedule's bytes and as words; beam 1 under a point load, too; members whose fields are numbered, to show which stands where; a mesh of family 2.
 use Prim.Native.Nat.{ℕ, _-_}
 use mathlib.Core.List.{List, [], _∷_, _++_}
 use lib.ListN.{length, replicate}
+use Rattle.quantity.specs.Unit.{millimetres}
 use Rattle.bars.specs.declared.Group.{Group}
+use Rattle.member.specs.declared.Load.{Load}
+use Rattle.member.specs.declared.Load.the-variants.{Uniform, Point}
 use Rattle.member.specs.Member.{Member, beam, column, mesh}
 use Rattle.lent_member.specs.declared.Lent.{Lent}
 
@@ -12,9 +15,9 @@ bars n d = record { diameter = d; bars = n } ∷ []
 
 -- ---- By their fields.
 
--- beam 1 with its compression steel and a', the spacing of its links and V
-abbrev pub beamWith : List Group → ℕ → ℕ → ℕ → Member
-beamWith compression a′ spacing shear =
+-- beam 1 with its load, its compression steel and a', the spacing of its links and V
+abbrev beamUnder : Load → List Group → ℕ → ℕ → ℕ → Member
+beamUnder load compression a′ spacing shear =
     beam 1 (record {
       b = 250;
       h = 500;
@@ -37,10 +40,18 @@ beamWith compression a′ spacing shear =
       Vd = shear;
       environment = 1;
       strict = 0;
+      load = load;
     })
+
+abbrev pub beamWith : List Group → ℕ → ℕ → ℕ → Member
+beamWith compression a′ spacing shear = beamUnder Uniform compression a′ spacing shear
 
 abbrev pub beam₁ : ℕ → ℕ → Member
 beam₁ spacing shear = beamWith [] 0 spacing shear
+
+-- under a point load at the distance a
+abbrev pub pointLoaded : ℕ → ℕ → ℕ → Member
+pointLoaded a spacing shear = beamUnder (Point (millimetres a)) [] 0 spacing shear
 
 -- column 2 with its length l0 and N
 abbrev pub column₂ : ℕ → ℕ → Member
@@ -79,10 +90,13 @@ mesh₃ anchorage lap =
 abbrev pub built : ℕ → ℕ → List ℕ → Lent
 built mark kind v = record { mark = mark; kind = kind; fields = record { v = v ++ replicate (24 - length v) 0 } }
 
--- with the count of its tension groups
+-- of kind 1 or 4, with the count of its tension groups and a
+abbrev pub builtBeamOf : ℕ → ℕ → ℕ → Lent
+builtBeamOf kind count a =
+    built 1 kind (250 ∷ 500 ∷ 250 ∷ 0 ∷ 40 ∷ 0 ∷ 30 ∷ 1 ∷ count ∷ 0 ∷ 8 ∷ 2 ∷ 200 ∷ 1 ∷ 30 ∷ 6000 ∷ 150000 ∷ 90000 ∷ 120000 ∷ 1 ∷ 0 ∷ a ∷ [])
+
 abbrev pub builtBeam : ℕ → Lent
-builtBeam count =
-    built 1 1 (250 ∷ 500 ∷ 250 ∷ 0 ∷ 40 ∷ 0 ∷ 30 ∷ 1 ∷ count ∷ 0 ∷ 8 ∷ 2 ∷ 200 ∷ 1 ∷ 30 ∷ 6000 ∷ 150000 ∷ 90000 ∷ 120000 ∷ 1 ∷ 0 ∷ [])
+builtBeam count = builtBeamOf 1 count 0
 
 abbrev pub builtColumn : Lent
 builtColumn = built 2 2 (400 ∷ 400 ∷ 30 ∷ 1 ∷ 1 ∷ 8 ∷ 250 ∷ 4000 ∷ 2500000 ∷ [])
@@ -96,15 +110,16 @@ builtMesh₄ concrete lapping anchorage lap = built 4 3 (2 ∷ concrete ∷ 10 �
 
 -- ---- With another number in each place: which field stands where. The numbers mean nothing.
 
-abbrev pub placedBeam : Lent
-placedBeam =
-    built 9 1 (
+-- of kind 1 or 4
+abbrev pub placedBeam : ℕ → Lent
+placedBeam kind =
+    built 9 kind (
     100 ∷ 101 ∷ 102 ∷ 103 ∷ 104 ∷ 105 ∷ 106 ∷ 107 ∷ 1 ∷ 2
-    ∷ 110 ∷ 111 ∷ 112 ∷ 113 ∷ 114 ∷ 115 ∷ 116 ∷ 117 ∷ 118 ∷ 119 ∷ 120 ∷ []
+    ∷ 110 ∷ 111 ∷ 112 ∷ 113 ∷ 114 ∷ 115 ∷ 116 ∷ 117 ∷ 118 ∷ 119 ∷ 120 ∷ 121 ∷ []
     )
 
-abbrev pub beamPlaced : List Group → List Group → Member
-beamPlaced tension compression =
+abbrev pub beamPlaced : Load → List Group → List Group → Member
+beamPlaced load tension compression =
     beam 9 (record {
       b = 100;
       h = 101;
@@ -127,6 +142,7 @@ beamPlaced tension compression =
       Vd = 118;
       environment = 119;
       strict = 120;
+      load = load;
     })
 
 abbrev pub placedColumn : Lent
@@ -167,10 +183,15 @@ meshPlaced =
 
 -- ---- As a schedule's bytes.
 
-abbrev pub beamBytes : List ℕ
-beamBytes =
-    1 ∷ 1 ∷ 250 ∷ 1 ∷ 244 ∷ 3 ∷ 250 ∷ 1 ∷ 0 ∷ 40 ∷ 0 ∷ 30 ∷ 1 ∷ 1 ∷ 20 ∷ 4 ∷ 0 ∷ 8 ∷ 2 ∷ 200 ∷ 1 ∷ 1
-    ∷ 30 ∷ 240 ∷ 46 ∷ 240 ∷ 147 ∷ 9 ∷ 144 ∷ 191 ∷ 5 ∷ 192 ∷ 169 ∷ 7 ∷ 1 ∷ 0 ∷ []
+-- with its kind and what follows the fields of kind 1
+abbrev pub beamBytes : ℕ → List ℕ → List ℕ
+beamBytes kind last =
+    1 ∷ kind ∷ 250 ∷ 1 ∷ 244 ∷ 3 ∷ 250 ∷ 1 ∷ 0 ∷ 40 ∷ 0 ∷ 30 ∷ 1 ∷ 1 ∷ 20 ∷ 4 ∷ 0 ∷ 8 ∷ 2 ∷ 200 ∷ 1 ∷ 1
+    ∷ 30 ∷ 240 ∷ 46 ∷ 240 ∷ 147 ∷ 9 ∷ 144 ∷ 191 ∷ 5 ∷ 192 ∷ 169 ∷ 7 ∷ 1 ∷ 0 ∷ last
+
+-- beam 1 alone, of kind 4
+abbrev pub pointBytes : List ℕ → List ℕ
+pointBytes a = 1 ∷ beamBytes 4 a
 
 -- with its steel's code
 abbrev pub columnBytes : ℕ → List ℕ
@@ -182,7 +203,7 @@ meshBytes mark = mark ∷ 3 ∷ 1 ∷ 30 ∷ 10 ∷ 1 ∷ 0 ∷ 0 ∷ 3 ∷ 1 �
 
 -- the printed schedule with the steel of its column, of code 1
 abbrev pub printedBytes : ℕ → List ℕ
-printedBytes steel = 3 ∷ (beamBytes ++ (columnBytes steel ++ meshBytes 3))
+printedBytes steel = 3 ∷ (beamBytes 1 [] ++ (columnBytes steel ++ meshBytes 3))
 
 -- ---- As words that a caller lends: mark, kind, 40 slots. `past` stands in each slot that has no effect.
 
@@ -190,12 +211,13 @@ printedBytes steel = 3 ∷ (beamBytes ++ (columnBytes steel ++ meshBytes 3))
 abbrev threePast : ℕ → List ℕ
 threePast past = past ∷ past ∷ past ∷ past ∷ past ∷ past ∷ []
 
-abbrev pub beamWords : ℕ → List ℕ
-beamWords past =
-    1 ∷ 1 ∷ 250 ∷ 500 ∷ 250 ∷ 0 ∷ 40 ∷ 0 ∷ 30 ∷ 1
+-- of kind 1 or 4, with the slot of a
+abbrev pub beamWords : ℕ → ℕ → ℕ → List ℕ
+beamWords kind a past =
+    1 ∷ kind ∷ 250 ∷ 500 ∷ 250 ∷ 0 ∷ 40 ∷ 0 ∷ 30 ∷ 1
     ∷ 1 ∷ 20 ∷ 4 ∷ (threePast past
     ++ (0 ∷ past ∷ past ∷ (threePast past
-    ++ (8 ∷ 2 ∷ 200 ∷ 1 ∷ 30 ∷ 6000 ∷ 150000 ∷ 90000 ∷ 120000 ∷ 1 ∷ 0 ∷ past ∷ past ∷ past ∷ []))))
+    ++ (8 ∷ 2 ∷ 200 ∷ 1 ∷ 30 ∷ 6000 ∷ 150000 ∷ 90000 ∷ 120000 ∷ 1 ∷ 0 ∷ a ∷ past ∷ past ∷ []))))
 
 abbrev pub columnWords : ℕ → List ℕ
 columnWords past = 2 ∷ 2 ∷ 400 ∷ 400 ∷ 30 ∷ 1 ∷ 1 ∷ 20 ∷ 8 ∷ (threePast past ++ (8 ∷ 250 ∷ 4000 ∷ 2500000 ∷ replicate 23 past))
@@ -206,4 +228,4 @@ meshWords mark past = mark ∷ 3 ∷ 1 ∷ 30 ∷ 10 ∷ 1 ∷ 0 ∷ 0 ∷ 3 ∷
 
 -- the printed schedule
 abbrev pub printedWords : ℕ → List ℕ
-printedWords past = beamWords past ++ (columnWords past ++ meshWords 3 past)
+printedWords past = beamWords 1 past past ++ (columnWords past ++ meshWords 3 past)

@@ -7,11 +7,13 @@ use mathlib.Core.Bool.{true, false}
 use mathlib.Core.List.{List, [], _∷_, _++_}
 use lib.ListN.{replicate}
 use lib.IntN.{negsuc}
-use lib.Ieee.{fin}
+use lib.Ieee.{Float, fin}
 use Rattle.text.specs.Text.{valueOf, wordOf, lineOf}
+use Rattle.quantity.specs.Unit.{millimetres}
+use Rattle.member.specs.declared.Load.the-variants.{Uniform, Point}
 use Rattle.outcome.specs.declared.Figure.the-variants.{Reached, Unreached}
 use Rattle.line.specs.ParsedLine.{parseLine}
-use Rattle.question.specs.declared.Question.the-variants.{Mark, Kind, Field}
+use Rattle.question.specs.declared.Question.the-variants.{Mark, Kind, Field, Consistency}
 use Rattle.deflection.specs.Steps.{spanDivisor}
 use Rattle.stability.specs.Steps.{stability}
 use Rattle.ratio.specs.declared.Utilization.{Utilization}
@@ -33,8 +35,10 @@ use Rattle.cases.specs.CaseMembers.{
   bars,
   beamWith,
   beam₁,
+  pointLoaded,
   column₂,
   mesh₃,
+  builtBeamOf,
   builtBeam,
   builtColumn,
   builtMesh,
@@ -45,8 +49,10 @@ use Rattle.cases.specs.CaseMembers.{
   columnPlaced,
   placedMesh,
   meshPlaced,
+  pointBytes,
   meshBytes,
   printedBytes,
+  beamWords,
   meshWords,
   printedWords,
 }
@@ -62,12 +68,12 @@ printed = bytes "members 3\n1 OK 179495 177587 172 1885\n2 OK 2816134 - - -\n3 O
 
 -- ---- Utilizations as doubles.
 
--- 150000/179495, 120000/177587, 172/300 and 1885/3000: 0.836, 0.676, 0.573, 0.628
-abbrev pub ofBeam : Utilization
-ofBeam =
+-- beam 1's, with that of the shear: 150000/179495, 172/300 and 1885/3000 are 0.836, 0.573 and 0.628
+abbrev ofBeamWith : Float → Utilization
+ofBeamWith shear =
     record {
       first = fin false 1881779281053997 (negsuc 50);
-      second = fin false 380399434702751 (negsuc 48);
+      second = shear;
       third = fin false 5164127572718169 (negsuc 52);
       fourth = fin false 5659523531728923 (negsuc 52);
       firstReached = true;
@@ -75,6 +81,14 @@ ofBeam =
       thirdReached = true;
       fourthReached = true;
     }
+
+-- 120000/177587: 0.676
+abbrev pub ofBeam : Utilization
+ofBeam = ofBeamWith (fin false 380399434702751 (negsuc 48))
+
+-- under a point load, 120000/153144: 0.784
+abbrev pub ofPointLoaded : Utilization
+ofPointLoaded = ofBeamWith (fin false 7057827342690011 (negsuc 52))
 
 -- 2500000/2816134: 0.888
 abbrev pub ofColumn : Utilization
@@ -124,6 +138,20 @@ pub record Table : Type 0 where
   -- 4.2.3, 360·12568·420/10000: two bars in compression, and five, where t is below 0
   pub compression : memberText (beamWith (bars 2 20) 40 200 120000) ≡ bytes "1 OK 190028 177587 172 1696\n"
   pub compression-above : memberText (beamWith (bars 5 20) 40 200 120000) ≡ bytes "1 OK 190028 177587 172 1508\n"
+  -- beam 1 under a point load (kind 4; h0 is 460): a/h0 of 1.5 is 690, of 3 is 1380
+  pub point-0 : memberText (pointLoaded 0 200 120000) ≡ bytes "1 OK 179495 177587 172 1885\n"
+  pub point-689 : memberText (pointLoaded 689 200 120000) ≡ bytes "1 OK 179495 177587 172 1885\n"
+  pub point-690 : memberText (pointLoaded 690 200 120000) ≡ bytes "1 OK 179495 177587 172 1885\n"
+  pub point-691 : memberText (pointLoaded 691 200 120000) ≡ bytes "1 OK 179495 177486 172 1885\n"
+  pub point-1000 : memberText (pointLoaded 1000 200 153144) ≡ bytes "1 OK 179495 153144 172 1885\n"
+  pub point-exceeded : memberText (pointLoaded 1000 200 153145) ≡ bytes "1 4.3.3 179495 153144 - -\n"
+  pub point-1379 : memberText (pointLoaded 1379 200 120000) ≡ bytes "1 OK 179495 134457 172 1885\n"
+  pub point-1380 : memberText (pointLoaded 1380 200 120000) ≡ bytes "1 OK 179495 134418 172 1885\n"
+  pub point-1381 : memberText (pointLoaded 1381 200 120000) ≡ bytes "1 OK 179495 134418 172 1885\n"
+  pub point-6000 : memberText (pointLoaded 6000 200 134418) ≡ bytes "1 OK 179495 134418 172 1885\n"
+  -- table 5.5.6 turns on 115115 N, of which a point load leaves 71946: links of low shear at 100000 N
+  pub point-low-shear : memberText (pointLoaded 6000 250 100000) ≡ bytes "1 OK 179495 121924 172 1885\n"
+  pub point-high-shear : memberText (pointLoaded 6000 250 115116) ≡ bytes "1 5.5.6s 179495 121924 - -\n"
   -- l0/b of 8 and 50, and φ in hundredths there, where the steps write 200·b for 1
   pub stocky : memberText (column₂ (8 * 400) 2500000) ≡ bytes "2 OK 2873606 - - -\n"
   pub slender : memberText (column₂ (50 * 400) 2500000) ≡ bytes "2 4.2.4 545985 - - -\n"
@@ -143,7 +171,13 @@ pub record Table : Type 0 where
   pub one-more : outputOf (245 ∷ 3 ∷ []) ≡ bytes "refused 4 member 0\n"
   pub mark-zero : outputOf (1 ∷ 0 ∷ []) ≡ bytes "refused 5 member 1\n"
   pub mark-stays : outputOf (2 ∷ (meshBytes 1 ++ meshBytes 1)) ≡ bytes "refused 5 member 2\n"
-  pub kind-four : outputOf (1 ∷ 1 ∷ 4 ∷ []) ≡ bytes "refused 6 member 1\n"
+  pub kind-five : outputOf (1 ∷ 1 ∷ 5 ∷ []) ≡ bytes "refused 6 member 1\n"
+  -- beam 1 of kind 4: a = 1000, l0 = 6000, 6001 and 12001; the file ends before a
+  pub point-read : schedule (pointBytes (232 ∷ 7 ∷ [])) ≡ got (pointLoaded 1000 200 120000 ∷ [])
+  pub point-at-span : outputOf (pointBytes (240 ∷ 46 ∷ [])) ≡ bytes "members 1\n1 OK 179495 134418 172 1885\n"
+  pub point-past-span : outputOf (pointBytes (241 ∷ 46 ∷ [])) ≡ bytes "refused 8 member 1\n"
+  pub point-past-range : outputOf (pointBytes (225 ∷ 93 ∷ [])) ≡ bytes "refused 7 member 1\n"
+  pub point-missing : outputOf (pointBytes []) ≡ bytes "refused 2 member 1\n"
   pub cross-bar-two : outputOf (1 ∷ 1 ∷ 3 ∷ 1 ∷ 30 ∷ 10 ∷ 2 ∷ []) ≡ bytes "refused 7 member 1\n"
   pub ends-in-a-field : outputOf (1 ∷ 1 ∷ 2 ∷ 172 ∷ 2 ∷ 172 ∷ 2 ∷ 30 ∷ []) ≡ bytes "refused 2 member 1\n"
   pub byte-left : outputOf (0 ∷ 0 ∷ []) ≡ bytes "refused 11 member 0\n"
@@ -168,7 +202,8 @@ pub record Table : Type 0 where
         fourth = Unreached;
       }
   -- members that a caller builds: which field stands where, and that each list is taken up to its count
-  pub placed-beam : lentMember placedBeam (bars 1 6 ++ bars 2 8) (bars 3 10 ++ (bars 4 12 ++ bars 5 14)) ≡ beamPlaced (bars 1 6) (bars 3 10 ++ bars 4 12)
+  pub placed-beam : lentMember (placedBeam 1) (bars 1 6 ++ bars 2 8) (bars 3 10 ++ (bars 4 12 ++ bars 5 14)) ≡ beamPlaced Uniform (bars 1 6) (bars 3 10 ++ bars 4 12)
+  pub placed-point : lentMember (placedBeam 4) (bars 1 6 ++ bars 2 8) (bars 3 10 ++ (bars 4 12 ++ bars 5 14)) ≡ beamPlaced (Point (millimetres 121)) (bars 1 6) (bars 3 10 ++ bars 4 12)
   pub placed-column : lentMember placedColumn (bars 1 6 ++ (bars 2 8 ++ bars 3 10)) (bars 4 12) ≡ columnPlaced (bars 1 6 ++ bars 2 8)
   pub placed-mesh : lentMember placedMesh (bars 1 6) (bars 2 8) ≡ meshPlaced
   -- document 01's, their lines, and a count above its list (question 7 of member 1)
@@ -176,6 +211,9 @@ pub record Table : Type 0 where
   pub built-column : lentMember builtColumn (bars 8 20) [] ≡ column₂ 4000 2500000
   pub built-mesh : lentMember (builtMesh 270 350) [] [] ≡ mesh₃ 270 350
   pub line-1 : lentReportOf (builtBeam 1) (bars 4 20) [] ≡ got (bytes "1 OK 179495 177587 172 1885\n")
+  -- of kind 4, a = 1000 and one past l0
+  pub line-point : lentReportOf (builtBeamOf 4 1 1000) (bars 4 20) [] ≡ got (bytes "1 OK 179495 153144 172 1885\n")
+  pub point-refused : lentReportOf (builtBeamOf 4 1 6001) (bars 4 20) [] ≡ no (refusal Consistency 1)
   pub line-2 : lentReportOf builtColumn (bars 8 20) [] ≡ got (bytes "2 OK 2816134 - - -\n")
   pub line-3 : lentReportOf (builtMesh 270 350) [] [] ≡ got (bytes "3 OK 263 342 - -\n")
   pub count-above : lentReportOf (builtBeam 2) (bars 4 20) [] ≡ no (refusal Field 1)
@@ -187,15 +225,20 @@ pub record Table : Type 0 where
   pub works-not-at-30 : lentReportOf (builtMesh₄ 30 2 430 559) [] [] ≡ got (bytes "4 OK 430 559 - -\n")
   -- members written: which field stands where, each list after its count
   pub beam-numbers :
-      memberNumbers (beamPlaced (bars 1 6) (bars 3 10 ++ bars 4 12)) ≡
+      memberNumbers (beamPlaced Uniform (bars 1 6) (bars 3 10 ++ bars 4 12)) ≡
       9 ∷ 1 ∷ 100 ∷ 101 ∷ 102 ∷ 103 ∷ 104 ∷ 105 ∷ 106 ∷ 107 ∷ 1 ∷ 6 ∷ 1 ∷ 2 ∷ 10 ∷ 3 ∷ 12 ∷ 4
       ∷ 110 ∷ 111 ∷ 112 ∷ 113 ∷ 114 ∷ 115 ∷ 116 ∷ 117 ∷ 118 ∷ 119 ∷ 120 ∷ []
+  pub point-numbers :
+      memberNumbers (beamPlaced (Point (millimetres 121)) (bars 1 6) (bars 3 10 ++ bars 4 12)) ≡
+      9 ∷ 4 ∷ 100 ∷ 101 ∷ 102 ∷ 103 ∷ 104 ∷ 105 ∷ 106 ∷ 107 ∷ 1 ∷ 6 ∷ 1 ∷ 2 ∷ 10 ∷ 3 ∷ 12 ∷ 4
+      ∷ 110 ∷ 111 ∷ 112 ∷ 113 ∷ 114 ∷ 115 ∷ 116 ∷ 117 ∷ 118 ∷ 119 ∷ 120 ∷ 121 ∷ []
   pub column-numbers : memberNumbers (columnPlaced (bars 1 6 ++ bars 2 8)) ≡ 9 ∷ 2 ∷ 100 ∷ 101 ∷ 102 ∷ 103 ∷ 2 ∷ 6 ∷ 1 ∷ 8 ∷ 2 ∷ 105 ∷ 106 ∷ 107 ∷ 108 ∷ []
   pub mesh-numbers : memberNumbers meshPlaced ≡ 9 ∷ 3 ∷ 100 ∷ 101 ∷ 102 ∷ 103 ∷ 104 ∷ 105 ∷ 106 ∷ 107 ∷ 108 ∷ 109 ∷ 110 ∷ []
   -- document 01's three held as words, the slots past a count 0 or any other number; words left over; no members
   pub written-three : fileOf (printedWords 0) ≡ got (printedBytes 1)
   pub written-unread : fileOf (printedWords 4294967295 ++ (7 ∷ 8 ∷ 9 ∷ [])) ≡ got (printedBytes 1)
   pub written-none : fileOf [] ≡ got (0 ∷ [])
+  pub written-point : fileOf (beamWords 4 1000 7) ≡ got (pointBytes (232 ∷ 7 ∷ []))
   -- marks that do not rise, one of them before an unknown kind; an unknown kind
   pub mark-again : fileOf (meshWords 1 0 ++ meshWords 1 0) ≡ no (refusal Mark 2)
   pub mark-before-kind : fileOf (meshWords 2 0 ++ (1 ∷ 9 ∷ replicate 40 0)) ≡ no (refusal Mark 2)
@@ -209,6 +252,7 @@ pub record Table : Type 0 where
   pub totals-above : barTotals 2 (bars 4 20) ≡ record { question = 7; member = 1; bars = 0; area = 0; diameters = 0; squares = 0 }
   -- their utilizations; an anchorage given as 0 fails and has none; a length above 100000 is refused
   pub utilization-1 : lentUtilizationOf (builtBeam 1) (bars 4 20) [] ≡ valuesGiven ofBeam
+  pub utilization-point : lentUtilizationOf (builtBeamOf 4 1 1000) (bars 4 20) [] ≡ valuesGiven ofPointLoaded
   pub utilization-2 : lentUtilizationOf builtColumn (bars 8 20) [] ≡ valuesGiven ofColumn
   pub utilization-3 : lentUtilizationOf (builtMesh 270 350) [] [] ≡ valuesGiven ofMesh
   pub utilization-none : lentUtilizationOf (builtMesh 0 350) [] [] ≡ valuesGiven ofNone

@@ -1,5 +1,6 @@
 -- Demand 3 for every accepted member: its outcome is safe, and so is its line.
 use Prim.Native.Nat.{ℕ}
+use mathlib.Core.Bool.{Bool}
 use mathlib.Core.Path.{_≡_, refl, ap, _∙_}
 use mathlib.Core.List.{List}
 use Rattle.outcome.specs.declared.Outcome.{Outcome}
@@ -33,9 +34,9 @@ line-safe m line a e = rw e (record { check = outcomeOf m .check; word = refl; m
 -- ---- By kind.
 
 module _ (mark : ℕ) (v : List ℕ) {kind : MemberKind} where
-  pub as-beam : kind ≡ kinds.Beam → AcceptedMember (memberAt mark kind v) → AcceptedBeam (beamAt v)
+  pub as-beam : (pointLoad : Bool) → kind ≡ kinds.Beam pointLoad → AcceptedMember (memberAt mark kind v) → AcceptedBeam (beamAt pointLoad v)
   unfolding memberAt
-  as-beam p a = (rw p at a) .1
+  as-beam pointLoad p a = (rw p at a) .1
 
   pub as-column : kind ≡ kinds.Column → AcceptedMember (memberAt mark kind v) → AcceptedColumn (columnAt v)
   unfolding memberAt
@@ -46,9 +47,9 @@ module _ (mark : ℕ) (v : List ℕ) {kind : MemberKind} where
   as-mesh p a = (rw p at a) .1
 
   module _ {o : Outcome} where
-    pub beam-outcome : {x : Beam} → kind ≡ kinds.Beam → x ≡ beamAt v → o ≡ beamOutcome x → o ≡ outcomeOf (memberAt mark kind v)
+    pub beam-outcome : {x : Beam} (pointLoad : Bool) → kind ≡ kinds.Beam pointLoad → x ≡ beamAt pointLoad v → o ≡ beamOutcome x → o ≡ outcomeOf (memberAt mark kind v)
     unfolding memberAt
-    beam-outcome p q e = rw p (e ∙ ap beamOutcome q)
+    beam-outcome pointLoad p q e = rw p (e ∙ ap beamOutcome q)
 
     pub column-outcome : {x : Column} → kind ≡ kinds.Column → x ≡ columnAt v → o ≡ columnOutcome x (concreteOf (x .concrete)) (steelOf (x .steel)) → o ≡ outcomeOf (memberAt mark kind v)
     unfolding memberAt

@@ -18,7 +18,7 @@ pub fn check_member(mark: u32, kind: MemberKind, v: &[u32; 40]) -> Outcome
     ensures { λ r. ⌜ r ≡ outcomeOf (memberAt mark kind (now (v .entry))) ⌝ }
 {
     match kind {
-        MemberKind::Beam => check_beam(beam_of(v)),
+        MemberKind::Beam(pointLoad) => check_beam(beam_of(pointLoad, v)),
         MemberKind::Column => check_column(column_of(v)),
         MemberKind::Mesh => check_mesh(mesh_of(v)),
     }

@@ -9,8 +9,11 @@ use lib.ListN.{length, take}
 use borrow.Author.Tests.{leb-true, ltb-true, eqb-true, eq-eqb, ne-eqb}
 use Rattle.quantity.proofs.Choice.{if-case, both-true}
 use Rattle.bars.specs.declared.Group.{Group}
+use Rattle.member.specs.declared.Load.{Load}
+use Rattle.member.specs.declared.Load.the-variants.{Uniform, Point}
 use Rattle.member.specs.Member.{Beam, Column, Mesh, h₀}
-use Rattle.consistency.specs.Consistency.{flangeFits, compressionFits, depthFits, beamConsistent, columnConsistent, meshConsistent}
+use Rattle.member.specs.Accepted.{LoadWithin}
+use Rattle.consistency.specs.Consistency.{flangeFits, compressionFits, depthFits, loadFits, beamConsistent, columnConsistent, meshConsistent}
 
 -- of four places, a count of 0 takes none, and no other does
 pub none-taken : (n : ℕ) (gs : List Group) → length gs ≡ 4 → eqb n 0 ≡ eqb (length (take n gs)) 0
@@ -27,6 +30,12 @@ pub record Related (x : Beam) : Type 0 where
   pub faces : 2 * (x .aₛ + x .a′) ≤ x .h
   pub cover : x .c < x .aₛ
   pub slender : x .l₀ ≤ 30 * h₀ x
+  pub load-within : LoadWithin (x .l₀) (x .load)
+
+load-fits-within : (load : Load) (l₀ : ℕ) → loadFits load l₀ ≡ true → LoadWithin l₀ load
+unfolding loadFits
+load-fits-within Uniform l₀ e = tt
+load-fits-within (Point a) l₀ e = leb-true _ _ e
 
 module _ (x : Beam) where
   flange-thickness : flangeFits x ≡ true → (x .b ≤ x .bf) × (x .bf ≡ x .b → x .hf ≡ 0) × (2 * x .hf ≤ x .h)
@@ -56,8 +65,9 @@ module _ (x : Beam) where
   related e =
       let t = both-true (flangeFits x) _ e in
       let u = both-true (compressionFits x) _ (t .1) in
+      let w = both-true (depthFits x) _ (u .1) in
       let f = flange-thickness (t .0) in
-      let d = depth (u .1) in
+      let d = depth (w .0) in
       record {
         flange = f .0;
         web = f .1;
@@ -66,6 +76,7 @@ module _ (x : Beam) where
         faces = d .0;
         cover = d .1;
         slender = d .2;
+        load-within = load-fits-within (x .load) (x .l₀) (w .1);
       }
 
 -- 8 of a column

@@ -3,11 +3,12 @@ ghost use mathlib.Core.Path.{_≡_};
 ghost use lib.Dec.{eqb};
 ghost use lib.ListN.{take, length};
 ghost use Rattle.member.specs.Member.{beamOf, columnOf, meshOf};
-ghost use Rattle.consistency.specs.Consistency.{flangeFits, compressionFits, depthFits, beamConsistent, columnConsistent, meshConsistent};
+ghost use Rattle.consistency.specs.Consistency.{flangeFits, compressionFits, depthFits, loadFits, beamConsistent, columnConsistent, meshConsistent};
 ghost use Rattle.member.specs.Accepted.{BeamInRange};
 use bars::Group;
 use member::Beam;
 use member::Column;
+use member::Load;
 use member::Mesh;
 use member::effective_depth;
 use quantity::and;
@@ -65,12 +66,27 @@ fn depth_fits(x: Beam) -> bool
     and(faces, and(cover, slender))
 }
 
+// 8, the point load of kind 4: a ≤ l0.
+fn load_fits(x: Beam) -> bool
+    ensures { λ r. ⌜ r ≡ loadFits (beamOf x .load) (beamOf x .l₀) ⌝ }
+{
+    let l0 = x.l0.in_millimetres();
+    let load = x.load;
+    match load {
+        Load::Uniform => true,
+        Load::Point(a) => a.in_millimetres() <= l0,
+    }
+}
+
 // 8, of a beam.
 pub fn beam_consistent(x: Beam) -> bool
     requires { ⌜ BeamInRange (beamOf x) ⌝ }
     ensures { λ r. ⌜ r ≡ beamConsistent (beamOf x) ⌝ }
 {
-    and(flange_fits(x), and(compression_fits(x), depth_fits(x)))
+    and(
+        flange_fits(x),
+        and(compression_fits(x), and(depth_fits(x), load_fits(x))),
+    )
 }
 
 // 8, of a column: b ≤ h.

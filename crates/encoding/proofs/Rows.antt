@@ -1,21 +1,21 @@
 -- The fields of a member as rows of slots: a list's groups stand after its count, as many as it says.
 use Prim.Native.Nat.{ℕ, zero, suc, _+_, _-_, _*_, _≤_, _<_}
 use mathlib.Core.Path.{_≡_, refl, sym, ap, _∙_}
-use mathlib.Core.Bool.{true}
+use mathlib.Core.Bool.{Bool, true, false}
 use mathlib.Core.List.{List, [], _∷_, _++_, append-assoc}
 use native.Mathlib.Numerals.{add-one}
 use native.Mathlib.Omega.{arith}
 use lib.ListN.{length}
 use native.Mathlib.Decide.{decLe}
 use Rattle.field_domain.proofs.InRange.{in-between}
-use Rattle.field_table.specs.Fields.{tensionCount, compressionCount, beamLinks, columnCount, columnLinks, beamFields, columnFields, meshFields, known, kindOf}
+use Rattle.field_table.specs.Fields.{tensionCount, compressionCount, beamLinks, columnCount, columnLinks, beamFields, beamFieldsOf, columnFields, meshFields, known, kindOf}
 use Rattle.field_check.specs.FieldCheck.{fieldsHold}
 use Rattle.varint.specs.Encoding.{bytesOf}
 use Rattle.field_layout.specs.Layout.{slot, part, groupsAt, beamAt, columnAt, meshAt, memberAt}
 use Rattle.field_layout.proofs.Part.{part-append}
 use Rattle.field_layout.proofs.Held.{in-range, beam-held, column-held}
 use Rattle.encoding.specs.FieldNumbers.{fieldNumbers}
-use Rattle.encoding.specs.ScheduleBytes.{bytesOfAll, listNumbers, beamNumbers, columnNumbers, meshNumbers, memberNumbers}
+use Rattle.encoding.specs.ScheduleBytes.{bytesOfAll, listNumbers, loadNumbers, beamNumbers, columnNumbers, meshNumbers, memberNumbers}
 
 bytes-append : (a b : List ℕ) → bytesOfAll (a ++ b) ≡ bytesOfAll a ++ bytesOfAll b
 unfolding bytesOfAll
@@ -70,15 +70,22 @@ module _ (v : List ℕ) where
   pub column-few : fieldsHold columnFields 0 v ≡ true → slot v columnCount ≤ 4
   column-few e = in-range v columnCount 1 4 (column-held v e columnCount tt) .1
 
-  -- e and f are the places after the two lists
-  pub beam-rows : fieldsHold beamFields 0 v ≡ true → (e f : ℕ) → e ≡ tensionCount + (1 + 2 * slot v tensionCount) → f ≡ compressionCount + (1 + 2 * slot v compressionCount)
-      → bytesOfAll (part v 0 (e - 0)) ++ (bytesOfAll (part v compressionCount (f - compressionCount)) ++ bytesOfAll (part v beamLinks (length beamFields - beamLinks)))
-      ≡ bytesOfAll (beamNumbers (beamAt v))
+  -- what follows a beam's lists
+  last-row : (pointLoad : Bool) → part v beamLinks (length (beamFieldsOf pointLoad) - beamLinks) ≡ part v beamLinks 11 ++ loadNumbers (beamAt pointLoad v .load)
+  unfolding beamAt
+  last-row false = refl
+  last-row true = refl
+
+  -- e and f are the places after the two lists, n the number of fields
+  pub beam-rows : (pointLoad : Bool) → fieldsHold beamFields 0 v ≡ true → (e f n : ℕ) → e ≡ tensionCount + (1 + 2 * slot v tensionCount)
+      → f ≡ compressionCount + (1 + 2 * slot v compressionCount) → n ≡ length (beamFieldsOf pointLoad)
+      → bytesOfAll (part v 0 (e - 0)) ++ (bytesOfAll (part v compressionCount (f - compressionCount)) ++ bytesOfAll (part v beamLinks (n - beamLinks)))
+      ≡ bytesOfAll (beamNumbers (beamAt pointLoad v))
   unfolding beamAt beamNumbers
-  beam-rows h e f p q =
+  beam-rows pointLoad h e f n p q r =
       let a : e - 0 ≡ 8 + (1 + 2 * slot v tensionCount) = omega arith in
       let b : f - compressionCount ≡ 1 + 2 * slot v compressionCount = omega arith in
-      rw (a, b, ← bytes-append, ← bytes-append, with-list v tensionCount 0 8 refl (tension-few h), counted v compressionCount (slot v compressionCount) refl (compression-few h))
+      rw (r, last-row pointLoad, a, b, ← bytes-append, ← bytes-append, with-list v tensionCount 0 8 refl (tension-few h), counted v compressionCount (slot v compressionCount) refl (compression-few h))
 
   pub column-rows : fieldsHold columnFields 0 v ≡ true → (e : ℕ) → e ≡ columnCount + (1 + 2 * slot v columnCount)
       → bytesOfAll (part v 0 (e - 0)) ++ bytesOfAll (part v columnLinks (length columnFields - columnLinks)) ≡ bytesOfAll (columnNumbers (columnAt v))
@@ -94,13 +101,14 @@ module _ (v : List ℕ) where
 -- ---- A member: its mark and the number of its kind before its fields.
 
 pub member-numbers : (mark number : ℕ) (v : List ℕ) → known number ≡ true → (mark ∷ number ∷ fieldNumbers (kindOf number) v) ≡ memberNumbers (memberAt mark (kindOf number) v)
-unfolding known kindOf memberAt fieldNumbers memberNumbers
-member-numbers mark number v k = cases (decLe number 1) (decLe number 2)
+unfolding known kindOf beamAt memberAt fieldNumbers memberNumbers
+member-numbers mark number v k = cases (decLe number 1) (decLe number 2) (decLe number 3)
   where
-    b : (1 ≤ number) × (number ≤ 3)
-    b = in-between {lo = 1} {hi = 3} k
+    b : (1 ≤ number) × (number ≤ 4)
+    b = in-between {lo = 1} {hi = 4} k
 
-    cases : Dec (number ≤ 1) → Dec (number ≤ 2) → (mark ∷ number ∷ fieldNumbers (kindOf number) v) ≡ memberNumbers (memberAt mark (kindOf number) v)
-    cases (yes p) _ = let e : number ≡ 1 = omega (arith, b) in rw e
-    cases (no p) (yes q) = let e : number ≡ 2 = omega (arith, b) in rw e
-    cases (no p) (no q) = let e : number ≡ 3 = omega (arith, b) in rw e
+    cases : Dec (number ≤ 1) → Dec (number ≤ 2) → Dec (number ≤ 3) → (mark ∷ number ∷ fieldNumbers (kindOf number) v) ≡ memberNumbers (memberAt mark (kindOf number) v)
+    cases (yes p) _ _ = let e : number ≡ 1 = omega (arith, b) in rw e
+    cases (no p) (yes q) _ = let e : number ≡ 2 = omega (arith, b) in rw e
+    cases (no p) (no q) (yes r) = let e : number ≡ 3 = omega (arith, b) in rw e
+    cases (no p) (no q) (no r) = let e : number ≡ 4 = omega (arith, b) in rw e

@@ -7,6 +7,6 @@ use Rattle.field_layout.specs.Layout.{beamAt, columnAt, meshAt}
 use Rattle.encoding.specs.ScheduleBytes.{beamNumbers, columnNumbers, meshNumbers}
 
 unfoldable pub fieldNumbers : MemberKind → List ℕ → List ℕ
-fieldNumbers kinds.Beam v = beamNumbers (beamAt v)
+fieldNumbers (kinds.Beam pointLoad) v = beamNumbers (beamAt pointLoad v)
 fieldNumbers kinds.Column v = columnNumbers (columnAt v)
 fieldNumbers kinds.Mesh v = meshNumbers (meshAt v)

@@ -1,10 +1,12 @@
--- The bytes of a schedule: the number of members, then of each its mark, its kind and its fields (document 01, "Schedule bytes").
+-- The bytes of a schedule: the number of members, then of each its mark, its kind and its fields (document 01, "Schedule bytes"; kind 4: document 02, wish 3).
 use Prim.Native.Nat.{ℕ}
 use mathlib.Core.List.{List, [], _∷_, _++_}
 use lib.ListN.{length}
 use Rattle.varint.specs.Encoding.{bytesOf}
 use Rattle.bars.specs.declared.Group.{Group}
 use Rattle.field_layout.specs.Layout.{groupNumbers}
+use Rattle.member.specs.declared.Load.{Load}
+use Rattle.member.specs.declared.Load.the-variants.{Uniform, Point}
 use Rattle.member.specs.Member.{Beam, Column, Mesh, Member, beam, column, mesh}
 
 -- numbers one after the other
@@ -17,6 +19,11 @@ abbrev pub listNumbers : List Group → List ℕ
 listNumbers gs = length gs ∷ groupNumbers gs
 
 -- ---- The fields of each kind.
+
+-- kind 4 has a, the distance of its point load from the support, after the fields of kind 1
+abbrev pub loadNumbers : Load → List ℕ
+loadNumbers Uniform = []
+loadNumbers (Point a) = a .0 ∷ []
 
 unfoldable pub beamNumbers : Beam → List ℕ
 beamNumbers x =
@@ -31,8 +38,8 @@ beamNumbers x =
     ∷ x .c ∷ x .l₀
     -- M, Mq, V
     ∷ x .M ∷ x .Mq ∷ x .Vd
-    -- environment, strict
-    ∷ x .environment ∷ x .strict ∷ [])))
+    -- environment, strict, a
+    ∷ x .environment ∷ x .strict ∷ loadNumbers (x .load))))
 
 unfoldable pub columnNumbers : Column → List ℕ
 columnNumbers x =
@@ -54,9 +61,14 @@ meshNumbers x =
 
 -- ---- Members and the whole.
 
+-- a beam's kind: 4 under a point load
+abbrev pub beamKind : Load → ℕ
+beamKind Uniform = 1
+beamKind (Point a) = 4
+
 -- mark, kind, fields
 unfoldable pub memberNumbers : Member → List ℕ
-memberNumbers (beam mark x) = mark ∷ 1 ∷ beamNumbers x
+memberNumbers (beam mark x) = mark ∷ beamKind (x .load) ∷ beamNumbers x
 memberNumbers (column mark x) = mark ∷ 2 ∷ columnNumbers x
 memberNumbers (mesh mark x) = mark ∷ 3 ∷ meshNumbers x
 

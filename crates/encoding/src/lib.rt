@@ -10,7 +10,6 @@ ghost use Rattle.field_layout.specs.Layout.{slot, part, beamAt, columnAt, membe
 ghost use Rattle.encoding.specs.ScheduleBytes.{bytesOfAll, beamNumbers, columnNumbers, memberNumbers};
 ghost use Rattle.encoding.specs.FieldNumbers.{fieldNumbers};
 use field_layout::index;
-use field_table::BEAM_FIELDS;
 use field_table::BEAM_LINKS;
 use field_table::COLUMN_COUNT;
 use field_table::COLUMN_FIELDS;
@@ -19,6 +18,7 @@ use field_table::COMPRESSION_COUNT;
 use field_table::MESH_FIELDS;
 use field_table::MemberKind;
 use field_table::TENSION_COUNT;
+use field_table::beam_field_count;
 use field_table::kind_of;
 use text::put_byte;
 
@@ -61,13 +61,13 @@ fn list_end(v: &[u32; 40], k: usize) -> usize
 }
 
 // The fields of a beam: each list's groups follow its count, and none past it is put.
-fn put_beam(out: &mut [u8], at: usize, v: &[u32; 40]) -> usize
+fn put_beam(out: &mut [u8], at: usize, pointLoad: bool, v: &[u32; 40]) -> usize
     requires { ⌜ fieldsHold beamFields 0 (now v) ≡ true ⌝ }
-    ensures { λ r. ⌜ Put (now (out .entry)) at (bytesOfAll (beamNumbers (beamAt (now (v .entry))))) (now (out .exit)) r ⌝ }
+    ensures { λ r. ⌜ Put (now (out .entry)) at (bytesOfAll (beamNumbers (beamAt pointLoad (now (v .entry))))) (now (out .exit)) r ⌝ }
 {
     let p = put_row(out, at, v, 0, list_end(v, TENSION_COUNT));
     let q = put_row(out, p, v, COMPRESSION_COUNT, list_end(v, COMPRESSION_COUNT));
-    put_row(out, q, v, BEAM_LINKS, BEAM_FIELDS)
+    put_row(out, q, v, BEAM_LINKS, beam_field_count(pointLoad))
 }
 
 // The fields of a column.
@@ -85,7 +85,7 @@ fn put_fields(out: &mut [u8], at: usize, kind: MemberKind, v: &[u32; 40]) -> usi
     ensures { λ r. ⌜ Put (now (out .entry)) at (bytesOfAll (fieldNumbers kind (now (v .entry)))) (now (out .exit)) r ⌝ }
 {
     match kind {
-        MemberKind::Beam => put_beam(out, at, v),
+        MemberKind::Beam(pointLoad) => put_beam(out, at, pointLoad, v),
         MemberKind::Column => put_column(out, at, v),
         MemberKind::Mesh => put_row(out, at, v, 0, MESH_FIELDS),
     }

@@ -2,12 +2,13 @@
 ghost use mathlib.Core.Path.{_≡_};
 ghost use Prim.Native.Nat.{_+_, _<_};
 ghost use lib.ListN.{take, drop};
-ghost use Rattle.field_table.specs.Fields.{groups, beamFields, columnFields, meshFields, fieldsOf};
+ghost use Rattle.field_table.specs.Fields.{groups, shearSpan, beamFields, loadFields, beamFieldsOf, columnFields, meshFields, fieldsOf};
 ghost use Rattle.field_check.specs.FieldCheck.{fieldsHold};
 use field_domain::slot_holds;
 use field_table::COLUMN_COUNT;
 use field_table::COMPRESSION_COUNT;
 use field_table::MemberKind;
+use field_table::SHEAR_SPAN;
 use field_table::TENSION_COUNT;
 use field_table::beam_field;
 use field_table::column_field;
@@ -68,11 +69,22 @@ fn beam_loads_hold(v: &[u32; 40]) -> bool
     and(slot_holds(beam_field(26), 26, v), ok)
 }
 
-// Question 7 of a beam.
-fn beam_holds(v: &[u32; 40]) -> bool
-    ensures { λ r. ⌜ r ≡ fieldsHold beamFields 0 (now (v .entry)) ⌝ }
+// Of a, which a beam under a point load has.
+fn point_load_holds(pointLoad: bool, v: &[u32; 40]) -> bool
+    ensures { λ r. ⌜ r ≡ fieldsHold (loadFields pointLoad) shearSpan (now (v .entry)) ⌝ }
 {
-    let ok = beam_loads_hold(v);
+    if pointLoad {
+        slot_holds(beam_field(SHEAR_SPAN), SHEAR_SPAN, v)
+    } else {
+        true
+    }
+}
+
+// Question 7 of a beam.
+fn beam_holds(pointLoad: bool, v: &[u32; 40]) -> bool
+    ensures { λ r. ⌜ r ≡ fieldsHold (beamFieldsOf pointLoad) 0 (now (v .entry)) ⌝ }
+{
+    let ok = and(beam_loads_hold(v), point_load_holds(pointLoad, v));
     let ok = and(list_holds(COMPRESSION_COUNT as u32, v), ok);
     let ok = and(
         slot_holds(beam_field(COMPRESSION_COUNT), COMPRESSION_COUNT, v),
@@ -134,7 +146,7 @@ pub fn fields_hold(kind: MemberKind, v: &[u32; 40]) -> bool
     ensures { λ r. ⌜ r ≡ fieldsHold (fieldsOf kind) 0 (now (v .entry)) ⌝ }
 {
     match kind {
-        MemberKind::Beam => beam_holds(v),
+        MemberKind::Beam(pointLoad) => beam_holds(pointLoad, v),
         MemberKind::Column => column_holds(v),
         MemberKind::Mesh => mesh_holds(v),
     }

@@ -1,6 +1,6 @@
 -- What the slots hold after question 7.
 use Prim.Native.Nat.{ℕ, zero, suc, _+_, _≤_, _<_}
-use mathlib.Core.Path.{_≡_, refl}
+use mathlib.Core.Path.{_≡_, refl, sym, _∙_}
 use mathlib.Core.Bool.{Bool, true, false, _||_}
 use mathlib.Core.List.{List, [], _∷_}
 use native.Mathlib.Nat.{not-suc-le-zero, le-of-suc-le-suc, add-suc, suc-add, zero-add, add-zero}
@@ -21,8 +21,9 @@ use Rattle.quantity.proofs.Choice.{both-true}
 use Rattle.field_domain.specs.declared.Domain.{Domain}
 use Rattle.field_domain.specs.declared.Domain.the-variants.{Range, ZeroOr, Bar, Grade, Steel, LinkSteel, GroupDiameter, GroupBars}
 use Rattle.field_domain.specs.Domain.{holds, isPresent, fieldHolds}
-use Rattle.field_table.specs.Fields.{tensionCount, compressionCount, columnCount, groups, beamFields, columnFields, meshFields}
+use Rattle.field_table.specs.Fields.{tensionCount, compressionCount, columnCount, groups, beamFields, loadFields, beamFieldsOf, columnFields, meshFields}
 use Rattle.field_check.specs.FieldCheck.{fieldsHold}
+use Rattle.field_check.proofs.Joined.{holds-append}
 use Rattle.field_domain.proofs.InRange.{in-between, a-bar}
 use Rattle.field_layout.specs.Layout.{slot, group, groupsAt, beamAt, columnAt}
 
@@ -109,6 +110,10 @@ module _ (v : List ℕ) (k : ℕ) where
 
 -- ---- A beam.
 
+-- the fields of kind 1, which every beam has
+pub beam-fields-held : (pointLoad : Bool) (v : List ℕ) → fieldsHold (beamFieldsOf pointLoad) 0 v ≡ true → fieldsHold beamFields 0 v ≡ true
+beam-fields-held pointLoad v e = both-true (fieldsHold beamFields 0 v) _ (sym (holds-append beamFields (loadFields pointLoad) 0 v) ∙ e) .0
+
 module _ (v : List ℕ) (e : fieldsHold beamFields 0 v ≡ true) where
   -- field k
   pub beam-held : (k : ℕ) → T (ltb k (length beamFields)) → fieldHolds (getD beamFields k (Range 0 0)) k v ≡ true
@@ -122,9 +127,9 @@ module _ (v : List ℕ) (e : fieldsHold beamFields 0 v ≡ true) where
   compression-accepted =
       groups-accepted v compressionCount (beam-held 18 tt) (beam-held 19 tt) (beam-held 20 tt) (beam-held 21 tt) (beam-held 22 tt) (beam-held 23 tt) (beam-held 24 tt) (beam-held 25 tt)
 
-  pub beam-in-range : BeamInRange (beamAt v)
+  pub beam-in-range : (pointLoad : Bool) → BeamInRange (beamAt pointLoad v)
   unfolding beamAt
-  beam-in-range =
+  beam-in-range pointLoad =
       record {
         b-most = in-range v 0 100 1000 (beam-held 0 tt) .1;
         h-most = in-range v 1 160 2000 (beam-held 1 tt) .1;
@@ -136,8 +141,8 @@ module _ (v : List ℕ) (e : fieldsHold beamFields 0 v ≡ true) where
       }
 
 -- the same of a beam, a column that are the slots'
-pub beam-in-range-of : {x : Beam} (v : List ℕ) → x ≡ beamAt v → fieldsHold beamFields 0 v ≡ true → BeamInRange x
-beam-in-range-of v p e = rw p (beam-in-range v e)
+pub beam-in-range-of : {x : Beam} (pointLoad : Bool) (v : List ℕ) → x ≡ beamAt pointLoad v → fieldsHold beamFields 0 v ≡ true → BeamInRange x
+beam-in-range-of pointLoad v p e = rw p (beam-in-range v e pointLoad)
 
 -- ---- A column.
 

@@ -1,11 +1,15 @@
 -- The fields of a member by name: slot i holds field i of its kind's table (crate `field_table`).
 use Prim.Native.Nat.{ℕ, zero, suc, _+_}
+use mathlib.Core.Bool.{Bool, true, false}
 use mathlib.Core.List.{List, [], _∷_}
 use lib.ListN.{getD, take}
+use Rattle.quantity.specs.Unit.{millimetres}
 use Rattle.bars.specs.declared.Group.{Group}
 use Rattle.field_table.specs.declared.MemberKind.{MemberKind}
 use Rattle.field_table.specs.declared.MemberKind.the-variants as kinds
 use Rattle.field_table.specs.Fields.{tensionCount, compressionCount, beamLinks, columnCount, columnLinks}
+use Rattle.member.specs.declared.Load.{Load}
+use Rattle.member.specs.declared.Load.the-variants.{Uniform, Point}
 use Rattle.member.specs.Member.{Beam, Column, Mesh, Member, beam, column, mesh}
 
 abbrev pub slot : List ℕ → ℕ → ℕ
@@ -29,9 +33,14 @@ groupNumbers (g ∷ gs) = g .diameter ∷ g .bars ∷ groupNumbers gs
 abbrev pub groupsAt : List ℕ → ℕ → List Group
 groupsAt v k = take (slot v k) (group v (k + 1) ∷ group v (k + 3) ∷ group v (k + 5) ∷ group v (k + 7) ∷ [])
 
+-- a beam's load, given what stands in the slot of a: without a point load it is not read
+abbrev pub loadAt : Bool → ℕ → Load
+loadAt false a = Uniform
+loadAt true a = Point (millimetres a)
+
 -- A beam of these groups, whose other fields stand in slots: those before the groups from slot 0 on, those after them from slot i on.
-abbrev pub beamFrom : List ℕ → ℕ → List Group → List Group → Beam
-beamFrom v i tension compression =
+abbrev pub beamFrom : Bool → List ℕ → ℕ → List Group → List Group → Beam
+beamFrom pointLoad v i tension compression =
     record {
       b = slot v 0;
       h = slot v 1;
@@ -54,6 +63,7 @@ beamFrom v i tension compression =
       Vd = slot v (i + 8);
       environment = slot v (i + 9);
       strict = slot v (i + 10);
+      load = loadAt pointLoad (slot v (i + 11));
     }
 
 -- The same of a column.
@@ -71,8 +81,8 @@ columnFrom v i groups =
       N = slot v (i + 3);
     }
 
-unfoldable pub beamAt : List ℕ → Beam
-beamAt v = beamFrom v beamLinks (groupsAt v tensionCount) (groupsAt v compressionCount)
+unfoldable pub beamAt : Bool → List ℕ → Beam
+beamAt pointLoad v = beamFrom pointLoad v beamLinks (groupsAt v tensionCount) (groupsAt v compressionCount)
 
 unfoldable pub columnAt : List ℕ → Column
 columnAt v = columnFrom v columnLinks (groupsAt v columnCount)
@@ -95,6 +105,6 @@ meshAt v =
 
 -- The member with this mark, this kind and these slots.
 unfoldable pub memberAt : ℕ → MemberKind → List ℕ → Member
-memberAt mark kinds.Beam v = beam mark (beamAt v)
+memberAt mark (kinds.Beam pointLoad) v = beam mark (beamAt pointLoad v)
 memberAt mark kinds.Column v = column mark (columnAt v)
 memberAt mark kinds.Mesh v = mesh mark (meshAt v)

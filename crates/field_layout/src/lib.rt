@@ -4,7 +4,8 @@ ghost use Prim.Native.Nat.{_+_, _<_};
 ghost use mathlib.Core.List.{[], _∷_};
 ghost use lib.ListN.{getD};
 ghost use Rattle.member.specs.Member.{beamOf, columnOf, meshOf};
-ghost use Rattle.field_layout.specs.Layout.{group, beamAt, columnAt, meshAt};
+ghost use Rattle.field_table.specs.Fields.{shearSpan};
+ghost use Rattle.field_layout.specs.Layout.{group, loadAt, beamAt, columnAt, meshAt};
 use bars::Group;
 use field_table::BEAM_LINKS;
 use field_table::COLUMN_COUNT;
@@ -12,10 +13,12 @@ use field_table::COLUMN_GROUPS;
 use field_table::COLUMN_LINKS;
 use field_table::COMPRESSION_COUNT;
 use field_table::COMPRESSION_GROUPS;
+use field_table::SHEAR_SPAN;
 use field_table::TENSION_COUNT;
 use field_table::TENSION_GROUPS;
 use member::Beam;
 use member::Column;
+use member::Load;
 use member::Mesh;
 use quantity::Force;
 use quantity::Length;
@@ -64,9 +67,20 @@ fn groups_at(v: &[u32; 40], i: usize) -> [Group; 4]
     ]
 }
 
+// What a beam is loaded by: a is read where it is under a point load.
+fn load_at(pointLoad: bool, v: &[u32; 40]) -> Load
+    ensures { λ r. ⌜ r ≡ loadAt pointLoad (getD (now (v .entry)) shearSpan 0) ⌝ }
+{
+    if pointLoad {
+        Load::Point(length_at(v, SHEAR_SPAN))
+    } else {
+        Load::Uniform
+    }
+}
+
 // The slots as a beam's fields.
-pub fn beam_of(v: &[u32; 40]) -> Beam
-    ensures { λ r. ⌜ beamOf r ≡ beamAt (now (v .entry)) ⌝ }
+pub fn beam_of(pointLoad: bool, v: &[u32; 40]) -> Beam
+    ensures { λ r. ⌜ beamOf r ≡ beamAt pointLoad (now (v .entry)) ⌝ }
 {
     Beam {
         b: length_at(v, 0),
@@ -92,6 +106,7 @@ pub fn beam_of(v: &[u32; 40]) -> Beam
         v: force_at(v, 34),
         environment: v[35],
         strict: v[36],
+        load: load_at(pointLoad, v),
     }
 }
 

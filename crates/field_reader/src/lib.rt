@@ -1,12 +1,12 @@
 // The reader: the numbers of a member that the validator accepted. It asks no question, since each was answered yes.
 ghost use mathlib.Core.Path.{_≡_};
 ghost use Prim.Native.Nat.{_+_, _-_, _<_, _≤_, _^_};
+ghost use lib.ListN.{drop};
 ghost use Rattle.varint.specs.Varint.{numberAt, septetsAt};
-ghost use Rattle.field_table.specs.Fields.{groups, beamFields, columnFields, fieldsOf};
+ghost use Rattle.field_table.specs.Fields.{beamLinks, groups, beamFieldsOf, columnFields, fieldsOf};
 ghost use Rattle.question.specs.Reading.{Got, got};
 ghost use Rattle.field_validator.specs.Placed.{placed, ofNumber};
 ghost use Rattle.field_validator.specs.Taken.{takenRow, taken};
-use field_table::BEAM_FIELDS;
 use field_table::BEAM_LINKS;
 use field_table::COLUMN_COUNT;
 use field_table::COLUMN_FIELDS;
@@ -18,6 +18,7 @@ use field_table::MESH_FIELDS;
 use field_table::MemberKind;
 use field_table::TENSION_COUNT;
 use field_table::TENSION_GROUPS;
+use field_table::beam_field_count;
 use field_validator::at_most_four;
 use varint::Number;
 use varint::widen;
@@ -97,16 +98,24 @@ fn read_list(src: &[u8], at: usize, v: &mut [u32; 40], k: usize) -> usize
     read_row(src, at, v, k + 1, k + 1 + 2 * n)
 }
 
+// What follows a beam's lists: links, cover, span, loads, environment, strict, and a under a point load.
+fn read_after_lists(src: &[u8], at: usize, pointLoad: bool, v: &mut [u32; 40]) -> usize
+    requires { ⌜ Got (taken (drop beamLinks (beamFieldsOf pointLoad)) (now src) at beamLinks (now v)) ⌝ }
+    ensures { λ r. ⌜ taken (drop beamLinks (beamFieldsOf pointLoad)) (now (src .entry)) at beamLinks (now (v .entry)) ≡ got (placed (now (v .exit)) r) ⌝ }
+{
+    read_row(src, at, v, BEAM_LINKS, beam_field_count(pointLoad))
+}
+
 // The fields of a beam.
-fn read_beam(src: &[u8], at: usize, v: &mut [u32; 40]) -> usize
-    requires { ⌜ Got (taken beamFields (now src) at 0 (now v)) ⌝ }
-    ensures { λ r. ⌜ taken beamFields (now (src .entry)) at 0 (now (v .entry)) ≡ got (placed (now (v .exit)) r) ⌝ }
+fn read_beam(src: &[u8], at: usize, pointLoad: bool, v: &mut [u32; 40]) -> usize
+    requires { ⌜ Got (taken (beamFieldsOf pointLoad) (now src) at 0 (now v)) ⌝ }
+    ensures { λ r. ⌜ taken (beamFieldsOf pointLoad) (now (src .entry)) at 0 (now (v .entry)) ≡ got (placed (now (v .exit)) r) ⌝ }
 {
     let tension = read_row(src, at, v, 0, TENSION_GROUPS);
     let count = read_list(src, tension, v, TENSION_COUNT);
     let compression = read_row(src, count, v, COMPRESSION_COUNT, COMPRESSION_GROUPS);
     let links = read_list(src, compression, v, COMPRESSION_COUNT);
-    read_row(src, links, v, BEAM_LINKS, BEAM_FIELDS)
+    read_after_lists(src, links, pointLoad, v)
 }
 
 // The fields of a column.
@@ -125,7 +134,7 @@ pub fn read_fields(src: &[u8], at: usize, kind: MemberKind, v: &mut [u32; 40]) -
     ensures { λ r. ⌜ taken (fieldsOf kind) (now (src .entry)) at 0 (now (v .entry)) ≡ got (placed (now (v .exit)) r) ⌝ }
 {
     match kind {
-        MemberKind::Beam => read_beam(src, at, v),
+        MemberKind::Beam(pointLoad) => read_beam(src, at, pointLoad, v),
         MemberKind::Column => read_column(src, at, v),
         MemberKind::Mesh => read_row(src, at, v, 0, MESH_FIELDS),
     }

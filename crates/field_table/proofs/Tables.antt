@@ -1,6 +1,7 @@
 -- A kind's table of fields, and its fields by slot.
 use Prim.Native.Nat.{ℕ, zero, suc, _+_, _-_, _≤_, _<_}
-use mathlib.Core.Path.{_≡_, sym, ap, _∙_}
+use mathlib.Core.Path.{_≡_, refl, sym, ap, _∙_}
+use mathlib.Core.Bool.{Bool, true, false}
 use mathlib.Core.List.{List, _∷_, _++_}
 use native.Mathlib.Numerals.{add-one}
 use native.Mathlib.Omega.{arith}
@@ -10,16 +11,32 @@ use Rattle.field_domain.specs.declared.Domain.{Domain}
 use Rattle.field_domain.specs.declared.Domain.the-variants.{Grade}
 use Rattle.field_table.specs.declared.MemberKind.{MemberKind}
 use Rattle.field_table.specs.declared.MemberKind.the-variants.{Beam, Column, Mesh}
-use Rattle.field_table.specs.Fields.{fieldsOf}
+use Rattle.field_table.specs.Fields.{beamLinks, beamFields, loadFields, beamFieldsOf, fieldsOf}
 
 -- ---- A kind.
 
 -- a member's fields fit the slots
 pub fields-fit : (kind : MemberKind) → length (fieldsOf kind) ≤ 40
 unfolding fieldsOf
-fields-fit Beam = omega arith
+fields-fit (Beam false) = omega arith
+fields-fit (Beam true) = omega arith
 fields-fit Column = omega arith
 fields-fit Mesh = omega arith
+
+-- ---- A beam: kind 4's table begins with kind 1's.
+
+pub beam-within : (pointLoad : Bool) (i : ℕ) → i < length (beamFieldsOf pointLoad) → i < length (beamFieldsOf true)
+beam-within false i h = omega arith
+beam-within true i h = h
+
+pub beam-field-same : (pointLoad : Bool) (i : ℕ) → i < length (beamFieldsOf pointLoad) → getD (beamFieldsOf true) i Grade ≡ getD (beamFieldsOf pointLoad) i Grade
+beam-field-same false i h = List·getD-append beamFields (loadFields true) Grade i h
+beam-field-same true i h = refl
+
+-- where its fields end
+pub beam-end : (pointLoad : Bool) (end : ℕ) → end ≡ length (beamFieldsOf pointLoad) → (beamLinks ≤ end) × (end ≤ 40)
+beam-end false end e = omega arith
+beam-end true end e = omega arith
 
 -- ---- A field by its slot.
 

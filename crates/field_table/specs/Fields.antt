@@ -1,7 +1,7 @@
--- The fields of each kind, in the order of document 01, "Schedule bytes".
+-- The fields of each kind, in the order of document 01, "Schedule bytes"; kind 4: document 02, wish 3.
 -- Field i of a member stands in slot i.
 use Prim.Native.Nat.{ℕ}
-use mathlib.Core.Bool.{Bool}
+use mathlib.Core.Bool.{Bool, true, false}
 use mathlib.Core.List.{List, [], _∷_, _++_}
 use lib.Dec.{eqb}
 use Rattle.quantity.specs.Choice.{if_then_else_}
@@ -13,7 +13,7 @@ use Rattle.field_table.specs.declared.MemberKind.the-variants as kinds
 
 -- ---- Slots by name. A list's groups take the eight slots after its count.
 
--- of a beam: the count of its tension groups, that of its compression groups, and the first field after them
+-- of a beam: the count of its tension groups, that of its compression groups, the first field after them, and a of kind 4
 abbrev pub tensionCount : ℕ
 tensionCount = 8
 
@@ -22,6 +22,9 @@ compressionCount = 17
 
 abbrev pub beamLinks : ℕ
 beamLinks = 26
+
+abbrev pub shearSpan : ℕ
+shearSpan = 37
 
 -- of a column: the count of its groups, and the first field after them
 abbrev pub columnCount : ℕ
@@ -59,6 +62,15 @@ beamFields =
     -- environment, strict
     ∷ Range 1 3 ∷ Range 0 1 ∷ []))))
 
+-- Kind 4, beam under a point load: the fields of kind 1 and then a, the distance from load to support.
+abbrev pub loadFields : Bool → List Domain
+loadFields false = []
+loadFields true = Range 0 12000 ∷ []
+
+-- a beam, under a point load (kind 4) or not (kind 1)
+abbrev pub beamFieldsOf : Bool → List Domain
+beamFieldsOf pointLoad = beamFields ++ loadFields pointLoad
+
 -- Kind 2, column.
 abbrev pub columnFields : List Domain
 columnFields =
@@ -87,15 +99,15 @@ meshFields =
 
 -- ---- The kinds.
 
--- Question 6: the kinds have the numbers 1 to 3.
+-- Question 6: the kinds have the numbers 1 to 4.
 unfoldable pub known : ℕ → Bool
-known number = inRange 1 3 number
+known number = inRange 1 4 number
 
 -- the kind of a known number
 unfoldable pub kindOf : ℕ → MemberKind
-kindOf number = if eqb number 1 then kinds.Beam else if eqb number 2 then kinds.Column else kinds.Mesh
+kindOf number = if eqb number 1 then kinds.Beam false else if eqb number 2 then kinds.Column else if eqb number 4 then kinds.Beam true else kinds.Mesh
 
 unfoldable pub fieldsOf : MemberKind → List Domain
-fieldsOf kinds.Beam = beamFields
+fieldsOf (kinds.Beam pointLoad) = beamFieldsOf pointLoad
 fieldsOf kinds.Column = columnFields
 fieldsOf kinds.Mesh = meshFields

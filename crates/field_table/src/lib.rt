@@ -1,19 +1,20 @@
 // The fields of each kind of member in the order of a schedule, each with its domain.
 ghost use mathlib.Core.Path.{_≡_};
+ghost use mathlib.Core.Bool.{true};
 ghost use Prim.Native.Nat.{_<_};
 ghost use lib.ListN.{length, getD};
-ghost use Rattle.field_table.specs.Fields.{groups, beamFields, columnFields, meshFields, known, kindOf, fieldsOf};
+ghost use Rattle.field_table.specs.Fields.{groups, beamFieldsOf, columnFields, meshFields, known, kindOf, fieldsOf};
 use field_domain::Domain;
 use field_domain::in_range;
 
-// The kinds of member.
+// The kinds of member. A beam: whether it is under a point load (kind 4) or not (kind 1).
 pub enum MemberKind {
-    Beam,
+    Beam(bool),
     Column,
     Mesh,
 }
 
-// Slots of a beam: the count of its tension groups and the first of them, the same in compression, the first field after them, and how many there are.
+// Slots of a beam: the count of its tension groups and the first of them, the same in compression, the first field after them, and a, which kind 4 has after all of kind 1.
 pub const TENSION_COUNT: usize = 8;
 
 pub const TENSION_GROUPS: usize = 9;
@@ -24,7 +25,7 @@ pub const COMPRESSION_GROUPS: usize = 18;
 
 pub const BEAM_LINKS: usize = 26;
 
-pub const BEAM_FIELDS: usize = 37;
+pub const SHEAR_SPAN: usize = 37;
 
 // Of a column.
 pub const COLUMN_COUNT: usize = 4;
@@ -55,10 +56,10 @@ pub fn group_field(k: u32, j: usize) -> Domain
     }
 }
 
-// Field i of a beam.
+// Field i of a beam. The last one, a, is there only under a point load.
 pub fn beam_field(i: usize) -> Domain
-    requires { ⌜ i < length beamFields ⌝ }
-    ensures { λ r. ⌜ r ≡ getD beamFields i Domain.Grade ⌝ }
+    requires { ⌜ i < length (beamFieldsOf true) ⌝ }
+    ensures { λ r. ⌜ r ≡ getD (beamFieldsOf true) i Domain.Grade ⌝ }
 {
     match i {
         0 => Domain::Range(100, 1000),
@@ -83,7 +84,8 @@ pub fn beam_field(i: usize) -> Domain
         33 => Domain::Range(1, 100000000),
         34 => Domain::Range(0, 100000000),
         35 => Domain::Range(1, 3),
-        _ => Domain::Range(0, 1),
+        36 => Domain::Range(0, 1),
+        _ => Domain::Range(0, 12000),
     }
 }
 
@@ -130,7 +132,7 @@ pub fn mesh_field(i: usize) -> Domain
 pub fn is_known(number: u32) -> bool
     ensures { λ r. ⌜ r ≡ known number ⌝ }
 {
-    in_range(1, 3, number)
+    in_range(1, 4, number)
 }
 
 // The kind of a number that question 6 lets through.
@@ -138,9 +140,21 @@ pub fn kind_of(number: u32) -> MemberKind
     ensures { λ r. ⌜ r ≡ kindOf number ⌝ }
 {
     match number {
-        1 => MemberKind::Beam,
+        1 => MemberKind::Beam(false),
         2 => MemberKind::Column,
+        4 => MemberKind::Beam(true),
         _ => MemberKind::Mesh,
+    }
+}
+
+// The number of fields of a beam.
+pub fn beam_field_count(pointLoad: bool) -> usize
+    ensures { λ r. ⌜ r ≡ length (beamFieldsOf pointLoad) ⌝ }
+{
+    if pointLoad {
+        SHEAR_SPAN + 1
+    } else {
+        SHEAR_SPAN
     }
 }
 
@@ -149,7 +163,7 @@ pub fn field_count(kind: MemberKind) -> usize
     ensures { λ r. ⌜ r ≡ length (fieldsOf kind) ⌝ }
 {
     match kind {
-        MemberKind::Beam => BEAM_FIELDS,
+        MemberKind::Beam(pointLoad) => beam_field_count(pointLoad),
         MemberKind::Column => COLUMN_FIELDS,
         MemberKind::Mesh => MESH_FIELDS,
     }
@@ -161,7 +175,7 @@ pub fn field_of(kind: MemberKind, i: usize) -> Domain
     ensures { λ r. ⌜ r ≡ getD (fieldsOf kind) i Domain.Grade ⌝ }
 {
     match kind {
-        MemberKind::Beam => beam_field(i),
+        MemberKind::Beam(_) => beam_field(i),
         MemberKind::Column => column_field(i),
         MemberKind::Mesh => mesh_field(i),
     }

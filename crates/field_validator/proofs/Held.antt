@@ -83,7 +83,8 @@ module _ (s w : List ℕ) (q : ℕ) where
 
 pub in-order : (kind : MemberKind) → ordered 0 (fieldsOf kind) ≡ true
 unfolding ordered fieldsOf
-in-order Beam = refl
+in-order (Beam false) = refl
+in-order (Beam true) = refl
 in-order Column = refl
 in-order Mesh = refl
 

@@ -18,7 +18,7 @@ use Rattle.field_domain.specs.declared.Domain.the-variants.{Range, GroupDiamete
 use Rattle.field_domain.specs.Domain.{presence, isAlways, isPresent, holds, fieldHolds}
 use Rattle.field_domain.proofs.Present.{countBelow, anySlot, present-same, present-holds, always-present}
 use Rattle.field_table.specs.declared.MemberKind.{MemberKind}
-use Rattle.field_table.specs.Fields.{tensionCount, compressionCount, beamLinks, columnCount, columnLinks, groups, beamFields, columnFields, meshFields, fieldsOf}
+use Rattle.field_table.specs.Fields.{tensionCount, compressionCount, beamLinks, columnCount, columnLinks, groups, beamFieldsOf, columnFields, meshFields, fieldsOf}
 use Rattle.field_check.specs.FieldCheck.{fieldsHold}
 use Rattle.field_table.proofs.Tables.{fields-fit}
 use Rattle.field_validator.specs.declared.FieldsEnd.{FieldsEnd}
@@ -262,19 +262,30 @@ module _ (s : List ℕ) where
       → taken (xs ++ ys) s p i v ≡ andThen (takenRow (length xs) s p i v) (λ r. taken ys s (r .next) (i + length xs) (r .value))
   plain-then xs ys e p i v = taken-append xs ys s p i v ∙ rw (row-plain xs e s p i v)
 
-  pub beam-rows : (p : ℕ) (v : List ℕ)
-      → taken beamFields s p 0 v
-      ≡ andThen (takenRow 9 s p 0 v) (λ a. andThen (listFrom tensionCount a) (λ b. andThen (rowFrom 1 compressionCount b) (λ c. andThen (listFrom compressionCount c) (rowFrom (length (drop 26 beamFields)) beamLinks))))
+  pub beam-rows : (pointLoad : Bool) (p : ℕ) (v : List ℕ)
+      → taken (beamFieldsOf pointLoad) s p 0 v
+      ≡ andThen (takenRow 9 s p 0 v) (λ a. andThen (listFrom tensionCount a) (λ b. andThen (rowFrom 1 compressionCount b) (λ c. andThen (listFrom compressionCount c) (λ d. taken (drop beamLinks (beamFieldsOf pointLoad)) s (d .next) beamLinks (d .value)))))
   unfolding allPlain
-  beam-rows p v =
-      plain-then (take 9 beamFields) (drop 9 beamFields) refl p 0 v
+  beam-rows pointLoad p v =
+      let fs = beamFieldsOf pointLoad in
+      plain-then (take 9 fs) (drop 9 fs) refl p 0 v
       ∙ and-same (takenRow 9 s p 0 v) _ _ (λ a.
-      taken-append (groups tensionCount) (drop 17 beamFields) s (a .next) 9 (a .value)
+      taken-append (groups tensionCount) (drop 17 fs) s (a .next) 9 (a .value)
       ∙ and-same (listFrom tensionCount a) _ _ (λ b.
-      plain-then (Range 0 4 ∷ []) (drop 18 beamFields) refl (b .next) 17 (b .value)
-      ∙ and-same (rowFrom 1 compressionCount b) _ _ (λ c.
-      taken-append (groups compressionCount) (drop 26 beamFields) s (c .next) 18 (c .value)
-      ∙ and-same (listFrom compressionCount c) _ _ (λ d. row-plain (drop 26 beamFields) refl s (d .next) 26 (d .value)))))
+      plain-then (Range 0 4 ∷ []) (drop 18 fs) refl (b .next) 17 (b .value)
+      ∙ and-same (rowFrom 1 compressionCount b) _ _ (λ c. taken-append (groups compressionCount) (drop 26 fs) s (c .next) 18 (c .value))))
+
+  -- what follows a beam's lists: a row to the end of its table
+  last-plain : (pointLoad : Bool) → allPlain (drop beamLinks (beamFieldsOf pointLoad)) ≡ true
+  unfolding allPlain
+  last-plain false = refl
+  last-plain true = refl
+
+  pub loads-row : (pointLoad : Bool) (end : ℕ) → end ≡ length (beamFieldsOf pointLoad) → (p : ℕ) (v : List ℕ)
+      → taken (drop beamLinks (beamFieldsOf pointLoad)) s p beamLinks v ≡ takenRow (end - beamLinks) s p beamLinks v
+  loads-row pointLoad end e p v =
+      let n : end - beamLinks ≡ length (drop beamLinks (beamFieldsOf pointLoad)) = omega arith in
+      rw n (row-plain (drop beamLinks (beamFieldsOf pointLoad)) (last-plain pointLoad) s p beamLinks v)
 
   pub column-rows : (p : ℕ) (v : List ℕ) → taken columnFields s p 0 v ≡ andThen (takenRow 5 s p 0 v) (λ a. andThen (listFrom columnCount a) (rowFrom 4 columnLinks))
   unfolding allPlain

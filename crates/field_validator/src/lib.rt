@@ -1,8 +1,9 @@
 // The validator of a member's fields: one by one, each held to its domain, or all at once.
 ghost use mathlib.Core.Path.{_≡_};
 ghost use Prim.Native.Nat.{_+_, _-_, _≤_, min};
+ghost use lib.ListN.{drop};
 ghost use Rattle.field_domain.specs.Domain.{holds};
-ghost use Rattle.field_table.specs.Fields.{groups, beamFields, columnFields, fieldsOf};
+ghost use Rattle.field_table.specs.Fields.{beamLinks, groups, beamFieldsOf, columnFields, fieldsOf};
 ghost use Rattle.question.specs.Reading.{no};
 ghost use Rattle.field_validator.specs.Placed.{ofNumber};
 ghost use Rattle.field_validator.specs.Taken.{takenRow, taken, fieldsEndOf};
@@ -12,7 +13,6 @@ use field_check::Slots;
 use field_domain::Domain;
 use field_domain::domain_holds;
 use field_domain::field_present;
-use field_table::BEAM_FIELDS;
 use field_table::BEAM_LINKS;
 use field_table::COLUMN_COUNT;
 use field_table::COLUMN_FIELDS;
@@ -24,6 +24,7 @@ use field_table::MESH_FIELDS;
 use field_table::MemberKind;
 use field_table::TENSION_COUNT;
 use field_table::TENSION_GROUPS;
+use field_table::beam_field_count;
 use field_table::field_count;
 use field_table::field_of;
 use question::Question;
@@ -143,9 +144,16 @@ fn take_list(src: &[u8], at: usize, v: &mut [u32; 40], k: usize) -> FieldsEnd
     take_row(src, at, v, k + 1, k + 1 + 2 * n)
 }
 
+// What follows a beam's lists: links, cover, span, loads, environment, strict, and a under a point load.
+fn take_after_lists(src: &[u8], at: usize, pointLoad: bool, v: &mut [u32; 40]) -> FieldsEnd
+    ensures { λ r. ⌜ fieldsEndOf r (now (v .exit)) ≡ taken (drop beamLinks (beamFieldsOf pointLoad)) (now (src .entry)) at beamLinks (now (v .entry)) ⌝ }
+{
+    take_row(src, at, v, BEAM_LINKS, beam_field_count(pointLoad))
+}
+
 // The fields of a beam.
-fn take_beam(src: &[u8], at: usize, v: &mut [u32; 40]) -> FieldsEnd
-    ensures { λ r. ⌜ fieldsEndOf r (now (v .exit)) ≡ taken beamFields (now (src .entry)) at 0 (now (v .entry)) ⌝ }
+fn take_beam(src: &[u8], at: usize, pointLoad: bool, v: &mut [u32; 40]) -> FieldsEnd
+    ensures { λ r. ⌜ fieldsEndOf r (now (v .exit)) ≡ taken (beamFieldsOf pointLoad) (now (src .entry)) at 0 (now (v .entry)) ⌝ }
 {
     match take_row(src, at, v, 0, TENSION_GROUPS) {
         FieldsEnd::Refused(q) => FieldsEnd::Refused(q),
@@ -166,7 +174,7 @@ fn take_beam(src: &[u8], at: usize, v: &mut [u32; 40]) -> FieldsEnd
                     COMPRESSION_COUNT,
                 ) {
                     FieldsEnd::Refused(q) => FieldsEnd::Refused(q),
-                    FieldsEnd::To(links) => take_row(src, links, v, BEAM_LINKS, BEAM_FIELDS),
+                    FieldsEnd::To(links) => take_after_lists(src, links, pointLoad, v),
                 },
             },
         },
@@ -191,7 +199,7 @@ pub fn take_fields(src: &[u8], at: usize, kind: MemberKind, v: &mut [u32; 40]) -
     ensures { λ r. ⌜ fieldsEndOf r (now (v .exit)) ≡ taken (fieldsOf kind) (now (src .entry)) at 0 (now (v .entry)) ⌝ }
 {
     match kind {
-        MemberKind::Beam => take_beam(src, at, v),
+        MemberKind::Beam(pointLoad) => take_beam(src, at, pointLoad, v),
         MemberKind::Column => take_column(src, at, v),
         MemberKind::Mesh => take_row(src, at, v, 0, MESH_FIELDS),
     }

@@ -18,7 +18,7 @@ use Rattle.field_domain.specs.Domain.{groupDiameter, groupBars, holds, isPresen
 use Rattle.field_domain.proofs.InRange.{in-between}
 use Rattle.field_table.specs.declared.MemberKind.{MemberKind}
 use Rattle.field_table.specs.declared.MemberKind.the-variants as kinds
-use Rattle.field_table.specs.Fields.{groups, beamFields, columnFields, meshFields, known, kindOf, fieldsOf}
+use Rattle.field_table.specs.Fields.{groups, beamFields, beamFieldsOf, columnFields, meshFields, known, kindOf, fieldsOf}
 use Rattle.field_check.specs.FieldCheck.{fieldsHold}
 use Rattle.field_check.proofs.Joined.{holds-append}
 use Rattle.field_layout.specs.Layout.{slot, beamAt, columnAt, meshAt, memberAt}
@@ -110,16 +110,24 @@ module _ (v : List ℕ) (first second : List Group) where
   column-most : fieldsHold (take 5 columnFields) 0 v ≡ true → slot v 4 ≤ 4
   column-most p = at-most-four (take 5 columnFields) 1 4 v p (ltb→lt 4 5 tt) refl
 
-  beam-holds : fieldsHold beamFields 0 beam-slots ≡ (fieldsHold (ungrouped beamFields) 0 v && (namedHold (slot v 8) first && namedHold (slot v 9) second))
+  -- what follows a beam's lists: the slots hold the fields as they were given
+  loads-given : (pointLoad : Bool) → fieldsHold (drop 26 (beamFieldsOf pointLoad)) 26 beam-slots ≡ fieldsHold (drop 10 (ungrouped (beamFieldsOf pointLoad))) 10 v
   unfolding fieldHolds isPresent beam-slots
-  beam-holds =
-      holds-append (take 9 beamFields) (drop 9 beamFields) 0 beam-slots
-      ∙ where-first (fieldsHold (take 9 beamFields) 0 v)
-      (λ p. holds-append (groups 8) (drop 17 beamFields) 9 beam-slots ∙ ap₂ _&&_ (list-holds 8 (slot v 8) first (tension-most p))
+  loads-given false = refl
+  loads-given true = refl
+
+  beam-holds : (pointLoad : Bool)
+      → fieldsHold (beamFieldsOf pointLoad) 0 beam-slots ≡ (fieldsHold (ungrouped (beamFieldsOf pointLoad)) 0 v && (namedHold (slot v 8) first && namedHold (slot v 9) second))
+  unfolding fieldHolds isPresent beam-slots
+  beam-holds pointLoad =
+      let fs = beamFieldsOf pointLoad in
+      holds-append (take 9 fs) (drop 9 fs) 0 beam-slots
+      ∙ where-first (fieldsHold (take 9 fs) 0 v)
+      (λ p. holds-append (groups 8) (drop 17 fs) 9 beam-slots ∙ ap₂ _&&_ (list-holds 8 (slot v 8) first (tension-most p))
       (where-first (holds (Range 0 4) (slot v 9))
-      (λ q. holds-append (groups 17) (drop 26 beamFields) 18 beam-slots ∙ ap (λ (b : Bool). b && fieldsHold (drop 26 beamFields) 10 v) (list-holds 17 (slot v 9) second (compression-most q)))))
-      ∙ groups-last (fieldsHold (take 9 beamFields) 0 v) (namedHold (slot v 8) first) (holds (Range 0 4) (slot v 9)) (namedHold (slot v 9) second) (fieldsHold (drop 26 beamFields) 10 v)
-      ∙ ap (λ (b : Bool). b && (namedHold (slot v 8) first && namedHold (slot v 9) second)) (sym (holds-append (take 9 beamFields) (drop 9 (ungrouped beamFields)) 0 v))
+      (λ q. holds-append (groups 17) (drop 26 fs) 18 beam-slots ∙ ap₂ _&&_ (list-holds 17 (slot v 9) second (compression-most q)) (loads-given pointLoad))))
+      ∙ groups-last (fieldsHold (take 9 fs) 0 v) (namedHold (slot v 8) first) (holds (Range 0 4) (slot v 9)) (namedHold (slot v 9) second) (fieldsHold (drop 10 (ungrouped fs)) 10 v)
+      ∙ ap (λ (b : Bool). b && (namedHold (slot v 8) first && namedHold (slot v 9) second)) (sym (holds-append (take 9 fs) (drop 9 (ungrouped fs)) 0 v))
 
   column-holds : fieldsHold columnFields 0 column-slots ≡ (fieldsHold (ungrouped columnFields) 0 v && (namedHold (slot v 4) first && namedHold 0 second))
   unfolding fieldHolds isPresent column-slots
@@ -136,12 +144,13 @@ module _ (v : List ℕ) (first second : List Group) where
 
   -- ---- The member of each kind, where question 7 holds.
 
-  beam-is : (fieldsHold (ungrouped beamFields) 0 v && (namedHold (slot v 8) first && namedHold (slot v 9) second)) ≡ true → beamAt beam-slots ≡ lentBeam v first second
+  beam-is : (pointLoad : Bool) → (fieldsHold (ungrouped (beamFieldsOf pointLoad)) 0 v && (namedHold (slot v 8) first && namedHold (slot v 9) second)) ≡ true → beamAt pointLoad beam-slots ≡ lentBeam pointLoad v first second
   unfolding beamAt lentBeam beam-slots fieldHolds isPresent
-  beam-is e =
-      let f = both-true (fieldsHold (ungrouped beamFields) 0 v) _ e in
+  beam-is pointLoad e =
+      let fs = beamFieldsOf pointLoad in
+      let f = both-true (fieldsHold (ungrouped fs) 0 v) _ e in
       let n = both-true (namedHold (slot v 8) first) _ (f .1) in
-      let p = both-true (fieldsHold (take 9 beamFields) 0 v) _ (sym (holds-append (take 9 beamFields) (drop 9 (ungrouped beamFields)) 0 v) ∙ f .0) in
+      let p = both-true (fieldsHold (take 9 fs) 0 v) _ (sym (holds-append (take 9 fs) (drop 9 (ungrouped fs)) 0 v) ∙ f .0) in
       let q = both-true (holds (Range 0 4) (slot v 9)) _ (p .1) in
       rw (named-groups (slot v 8) first (tension-most (p .0)) (n .0), named-groups (slot v 9) second (compression-most (q .0)) (n .1))
 
@@ -161,7 +170,7 @@ module _ (v : List ℕ) (first second : List Group) where
 -- a mark has no part in questions 8 to 10
 mark-free : (mark : ℕ) (kind : MemberKind) (v : List ℕ) → verdictOf (memberAt 0 kind v) ≡ verdictOf (memberAt mark kind v)
 unfolding memberAt
-mark-free mark kinds.Beam v = refl
+mark-free mark (kinds.Beam pointLoad) v = refl
 mark-free mark kinds.Column v = refl
 mark-free mark kinds.Mesh v = refl
 
@@ -172,13 +181,13 @@ module _ (v : List ℕ) (first second : List Group) where
 
   fields-hold : (kind : MemberKind) → fieldsHold (fieldsOf kind) 0 (slotsOf kind) ≡ lentFieldsHold kind v first second
   unfolding lentSlots lentFieldsHold fieldsOf beam-slots column-slots
-  fields-hold kinds.Beam = beam-holds v first second
+  fields-hold (kinds.Beam pointLoad) = beam-holds v first second pointLoad
   fields-hold kinds.Column = column-holds v first second
   fields-hold kinds.Mesh = mesh-holds v first second
 
   member-is : (mark : ℕ) (kind : MemberKind) → lentFieldsHold kind v first second ≡ true → memberAt mark kind (slotsOf kind) ≡ lentOf kind mark v first second
   unfolding lentSlots lentFieldsHold fieldsOf beam-slots column-slots memberAt
-  member-is mark kinds.Beam e = ap (beam mark) (beam-is v first second e)
+  member-is mark (kinds.Beam pointLoad) e = ap (beam mark) (beam-is v first second pointLoad e)
   member-is mark kinds.Column e = ap (column mark) (column-is v first second e)
   member-is mark kinds.Mesh e = ap (mesh mark) (mesh-is v first second)
 
@@ -196,7 +205,7 @@ module _ (v : List ℕ) (first second : List Group) where
 -- copying the groups out once more changes nothing
 pub slots-again : (kind : MemberKind) (v : List ℕ) (first second : List Group) → lentSlots kind v (firstFour first) (firstFour second) ≡ lentSlots kind v first second
 unfolding lentSlots
-slots-again kinds.Beam v first second = refl
+slots-again (kinds.Beam pointLoad) v first second = refl
 slots-again kinds.Column v first second = refl
 slots-again kinds.Mesh v first second = refl
 

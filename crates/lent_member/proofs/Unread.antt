@@ -15,7 +15,7 @@ use Rattle.lent_member.specs.Lent.{lentBeam, lentColumn, lentOf, lentMem
 same-of : (kind : MemberKind) (mark : ℕ) (v : List ℕ) (first first′ second second′ : List Group) → take (firstCount kind v) first ≡ take (firstCount kind v) first′
     → take (secondCount kind v) second ≡ take (secondCount kind v) second′ → lentOf kind mark v first′ second′ ≡ lentOf kind mark v first second
 unfolding lentBeam lentColumn
-same-of kinds.Beam mark v first first′ second second′ p q = rw (p, q)
+same-of (kinds.Beam pointLoad) mark v first first′ second second′ p q = rw (p, q)
 same-of kinds.Column mark v first first′ second second′ p q = rw p
 same-of kinds.Mesh mark v first first′ second second′ p q = refl
 

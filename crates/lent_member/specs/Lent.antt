@@ -33,15 +33,15 @@ abbrev pub columnLinksGiven : ℕ
 columnLinksGiven = 5
 
 -- its groups are the first of each list, as many as its count says
-unfoldable pub lentBeam : List ℕ → List Group → List Group → Beam
-lentBeam v first second = beamFrom v beamLinksGiven (take (slot v tensionCount) first) (take (slot v compressionCountGiven) second)
+unfoldable pub lentBeam : Bool → List ℕ → List Group → List Group → Beam
+lentBeam pointLoad v first second = beamFrom pointLoad v beamLinksGiven (take (slot v tensionCount) first) (take (slot v compressionCountGiven) second)
 
 unfoldable pub lentColumn : List ℕ → List Group → Column
 lentColumn v first = columnFrom v columnLinksGiven (take (slot v columnCount) first)
 
 -- a mesh has no groups: its fields stand as in a schedule
 abbrev pub lentOf : MemberKind → ℕ → List ℕ → List Group → List Group → Member
-lentOf kinds.Beam mark v first second = beam mark (lentBeam v first second)
+lentOf (kinds.Beam pointLoad) mark v first second = beam mark (lentBeam pointLoad v first second)
 lentOf kinds.Column mark v first second = column mark (lentColumn v first)
 lentOf kinds.Mesh mark v first second = mesh mark (meshAt v)
 
@@ -57,12 +57,12 @@ ungrouped (d ∷ ds) = if isAlways (presence d) then d ∷ ungrouped ds else ung
 
 -- how many groups of the first and of the second list the counts name
 abbrev pub firstCount : MemberKind → List ℕ → ℕ
-firstCount kinds.Beam v = slot v tensionCount
+firstCount (kinds.Beam pointLoad) v = slot v tensionCount
 firstCount kinds.Column v = slot v columnCount
 firstCount kinds.Mesh v = 0
 
 abbrev pub secondCount : MemberKind → List ℕ → ℕ
-secondCount kinds.Beam v = slot v compressionCountGiven
+secondCount (kinds.Beam pointLoad) v = slot v compressionCountGiven
 secondCount kinds.Column v = 0
 secondCount kinds.Mesh v = 0
 

@@ -1,20 +1,21 @@
 -- The slots (crate `field_layout`) into which the code puts a lent member: the terms of its inner contracts.
 use Prim.Native.Nat.{ℕ}
+use mathlib.Core.Bool.{true}
 use mathlib.Core.List.{List, _++_}
 use lib.ListN.{length, drop, replicate}
 use Rattle.bars.specs.declared.Group.{Group}
 use Rattle.field_table.specs.declared.MemberKind.{MemberKind}
 use Rattle.field_table.specs.declared.MemberKind.the-variants as kinds
-use Rattle.field_table.specs.Fields.{beamLinks, columnLinks, beamFields, columnFields, meshFields, kindOf}
+use Rattle.field_table.specs.Fields.{beamLinks, columnLinks, beamFieldsOf, columnFields, meshFields, kindOf}
 use Rattle.field_layout.specs.Layout.{part, groupNumbers}
 use Rattle.verdict.specs.declared.Built.{Built}
 use Rattle.lent_groups.specs.CopiedGroups.{firstFour}
 use Rattle.lent_member.specs.declared.Lent.{Lent}
 use Rattle.lent_member.specs.Lent.{compressionCountGiven, beamLinksGiven, columnLinksGiven}
 
--- the fields of a kind with its groups, each list after its count
+-- the fields of a kind with its groups, each list after its count; of a beam as many as kind 4 has
 abbrev pub beamSlots : List ℕ → List Group → List Group → List ℕ
-beamSlots v first second = part v 0 9 ++ (groupNumbers (firstFour first) ++ (part v compressionCountGiven 1 ++ (groupNumbers (firstFour second) ++ part v beamLinksGiven (length (drop beamLinks beamFields)))))
+beamSlots v first second = part v 0 9 ++ (groupNumbers (firstFour first) ++ (part v compressionCountGiven 1 ++ (groupNumbers (firstFour second) ++ part v beamLinksGiven (length (drop beamLinks (beamFieldsOf true))))))
 
 abbrev pub columnSlots : List ℕ → List Group → List ℕ
 columnSlots v first = part v 0 5 ++ (groupNumbers (firstFour first) ++ part v columnLinksGiven (length (drop columnLinks columnFields)))
@@ -27,7 +28,7 @@ abbrev pub filled : List ℕ → List ℕ
 filled s = s ++ drop (length s) (replicate 40 0)
 
 unfoldable pub lentSlots : MemberKind → List ℕ → List Group → List Group → List ℕ
-lentSlots kinds.Beam v first second = filled (beamSlots v first second)
+lentSlots (kinds.Beam pointLoad) v first second = filled (beamSlots v first second)
 lentSlots kinds.Column v first second = filled (columnSlots v first)
 lentSlots kinds.Mesh v first second = filled (meshSlots v)
 

@@ -11,7 +11,6 @@ ghost use Rattle.lent_member.specs.LentSlots.{beamSlots, columnSlots, me
 use bars::Group;
 use field_check::Slots;
 use field_layout::index;
-use field_table::BEAM_FIELDS;
 use field_table::BEAM_LINKS;
 use field_table::COLUMN_COUNT;
 use field_table::COLUMN_FIELDS;
@@ -23,10 +22,11 @@ use field_table::MESH_FIELDS;
 use field_table::MemberKind;
 use field_table::TENSION_COUNT;
 use field_table::TENSION_GROUPS;
+use field_table::beam_field_count;
 use field_table::kind_of;
 use verdict::Built;
 
-// The fields of a kind in the order of a schedule, without the groups: 21 of a beam, 9 of a column, 11 of a mesh. Those past them have no effect.
+// The fields of a kind in the order of a schedule, without the groups: 21 of a beam and one more under a point load, 9 of a column, 11 of a mesh. Those past them have no effect.
 #[repr(C)]
 pub struct Fields {
     pub v: [u32; 24],
@@ -54,7 +54,7 @@ pub fn first_count(x: Lent) -> usize
     let f = x.fields;
     let v = f.v;
     match kind_of(x.kind) {
-        MemberKind::Beam => index(v[TENSION_COUNT]),
+        MemberKind::Beam(_) => index(v[TENSION_COUNT]),
         MemberKind::Column => index(v[COLUMN_COUNT]),
         MemberKind::Mesh => 0,
     }
@@ -67,7 +67,7 @@ pub fn second_count(x: Lent) -> usize
     let f = x.fields;
     let v = f.v;
     match kind_of(x.kind) {
-        MemberKind::Beam => index(v[COMPRESSION_COUNT_GIVEN]),
+        MemberKind::Beam(_) => index(v[COMPRESSION_COUNT_GIVEN]),
         MemberKind::Column => 0,
         MemberKind::Mesh => 0,
     }
@@ -113,6 +113,7 @@ fn put_groups(t: Slots, at: usize, groups: [Group; 4]) -> Slots
     put_group(three, at + 6, groups[3])
 }
 
+// The slots of a beam. a is put for both kinds, and only kind 4 reads it.
 fn beam_slots(x: Fields, first: [Group; 4], second: [Group; 4]) -> Slots
     ensures { λ r. ⌜ r .v ≡ filled (beamSlots (x .v) first second) ⌝ }
 {
@@ -121,7 +122,7 @@ fn beam_slots(x: Fields, first: [Group; 4], second: [Group; 4]) -> Slots
     let b = put_groups(a, TENSION_GROUPS, first);
     let c = put_fields(b, COMPRESSION_COUNT, x, COMPRESSION_COUNT_GIVEN, 1);
     let d = put_groups(c, COMPRESSION_GROUPS, second);
-    let rest = BEAM_FIELDS - BEAM_LINKS;
+    let rest = beam_field_count(true) - BEAM_LINKS;
     put_fields(d, BEAM_LINKS, x, BEAM_LINKS_GIVEN, rest)
 }
 
@@ -146,7 +147,7 @@ fn slots_of(kind: MemberKind, x: Fields, first: [Group; 4], second: [Group; 4]) 
     ensures { λ r. ⌜ r .v ≡ lentSlots kind (x .v) first second ⌝ }
 {
     match kind {
-        MemberKind::Beam => beam_slots(x, first, second),
+        MemberKind::Beam(_) => beam_slots(x, first, second),
         MemberKind::Column => column_slots(x, first),
         MemberKind::Mesh => mesh_slots(x),
     }

@@ -1,5 +1,5 @@
 -- What the checks may use of a member that passed questions 7 to 10.
--- The ranges are those of document 01, "Schedule bytes"; the relations those of questions 8 to 10.
+-- The ranges are those of document 01, "Schedule bytes"; the relations those of questions 8 to 10 (kind 4: document 02, wish 3).
 use Prim.Native.Nat.{ℕ, _+_, _*_, _≤_, _<_}
 use mathlib.Core.Path.{_≡_}
 use mathlib.Core.Bool.{true}
@@ -10,6 +10,8 @@ use Rattle.table.specs.Table.{listed}
 use Rattle.material.specs.Concrete.{concretes}
 use Rattle.material.specs.Steel.{steels, linkSteels}
 use Rattle.bars.specs.Accepted.{BarFrom, AcceptedGroups}
+use Rattle.member.specs.declared.Load.{Load}
+use Rattle.member.specs.declared.Load.the-variants.{Uniform, Point}
 use Rattle.member.specs.Member.{Beam, Column, Mesh, Member, beam, column, mesh, h₀}
 use Rattle.bars.specs.Sums.{barCount, area}
 
@@ -22,6 +24,11 @@ pub record BeamInRange (x : Beam) : Type 0 where
   pub a′-most : x .a′ ≤ 200
   pub tension : AcceptedGroups (x .tension)
   pub compression : AcceptedGroups (x .compression)
+
+-- a point load stands at most this far from the support
+abbrev pub LoadWithin : ℕ → Load → Type 0
+LoadWithin most Uniform = Unit {0}
+LoadWithin most (Point a) = a .0 ≤ most
 
 pub record AcceptedBeam (x : Beam) : Type 0 where
   pub b-least : 100 ≤ x .b
@@ -62,6 +69,7 @@ pub record AcceptedBeam (x : Beam) : Type 0 where
   pub faces : 2 * (x .aₛ + x .a′) ≤ x .h
   pub cover : x .c < x .aₛ
   pub slender : x .l₀ ≤ 30 * h₀ x
+  pub load-within : LoadWithin (x .l₀) (x .load)
   -- 9
   pub tension-bars : barCount (x .tension) ≤ 40
   pub compression-bars : barCount (x .compression) ≤ 40

@@ -1,14 +1,15 @@
--- Members as document 01 has them.
+-- Members as document 01 has them; kind 4 as document 02, wish 3.
 -- "A member's fields are those of its kind, with the groups that its counts name": two are equal exactly where mark, kind and these are.
 use Prim.Native.Nat.{ℕ, _-_}
 use mathlib.Core.List.{List}
 use lib.ListN.{take}
 use Rattle.bars.specs.declared.Group.{Group}
+use Rattle.member.specs.declared.Load.{Load}
 use Rattle.member.specs.declared.Beam as code-beam
 use Rattle.member.specs.declared.Column as code-column
 use Rattle.member.specs.declared.Mesh as code-mesh
 
--- Kind 1. Lengths in mm; M and Mq in N·m; V in N.
+-- Kinds 1 and 4. Lengths in mm; M and Mq in N·m; V in N.
 pub record Beam : Type 0 where
   pub b : ℕ
   pub h : ℕ
@@ -34,6 +35,8 @@ pub record Beam : Type 0 where
   pub Vd : ℕ
   pub environment : ℕ
   pub strict : ℕ
+  -- uniform in kind 1; in kind 4 a point load at the distance a from the support
+  pub load : Load
 
 -- Kind 2. N in N.
 pub record Column : Type 0 where
@@ -96,6 +99,7 @@ beamOf x =
       Vd = x .v .0;
       environment = x .environment;
       strict = x .strict;
+      load = x .load;
     }
 
 abbrev pub columnOf : code-column.Column → Column

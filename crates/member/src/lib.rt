@@ -5,7 +5,13 @@ use bars::Group;
 use quantity::Force;
 use quantity::Length;
 
-// Kind 1. Only the first `tensions` and `compressions` groups are there.
+// The load of a beam: uniform (kind 1), or mostly one load, at the distance a from the support (kind 4).
+pub enum Load {
+    Uniform,
+    Point(Length),
+}
+
+// Kinds 1 and 4. Only the first `tensions` and `compressions` groups are there.
 pub struct Beam {
     pub b: Length,
     pub h: Length,
@@ -33,6 +39,7 @@ pub struct Beam {
     pub v: Force,
     pub environment: u32,
     pub strict: u32,
+    pub load: Load,
 }
 
 // Kind 2. Only the first `count` groups are there.

@@ -55,7 +55,7 @@ module _ (n : ℕ) (s : List ℕ) (p : ℕ) (h : 0 < n) where
 -- the mark of a member in slots
 pub mark-of : (mark : ℕ) (kind : MemberKind) (v : List ℕ) → markOf (memberAt mark kind v) ≡ mark
 unfolding memberAt
-mark-of mark kinds.Beam v = refl
+mark-of mark (kinds.Beam pointLoad) v = refl
 mark-of mark kinds.Column v = refl
 mark-of mark kinds.Mesh v = refl
 

@@ -152,6 +152,7 @@ alwaysThere fs k = isAlways (presence (getD fs k Grade))
 
 pub kind-ordered : (kind : MemberKind) → wellOrdered (alwaysThere (fieldsOf kind)) 0 (fieldsOf kind) ≡ true
 unfolding wellOrdered fieldsOf largest
-kind-ordered kinds.Beam = refl
+kind-ordered (kinds.Beam false) = refl
+kind-ordered (kinds.Beam true) = refl
 kind-ordered kinds.Column = refl
 kind-ordered kinds.Mesh = refl

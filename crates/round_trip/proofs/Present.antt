@@ -12,10 +12,11 @@ use Rattle.field_domain.specs.declared.Domain.the-variants.{Range}
 use Rattle.field_domain.specs.Domain.{isPresent}
 use Rattle.field_table.specs.declared.MemberKind.{MemberKind}
 use Rattle.field_table.specs.declared.MemberKind.the-variants as kinds
-use Rattle.field_table.specs.Fields.{tensionCount, compressionCount, columnCount, groups, beamFields, columnFields, fieldsOf}
+use Rattle.field_table.specs.Fields.{tensionCount, compressionCount, columnCount, groups, beamFieldsOf, columnFields, fieldsOf}
 use Rattle.field_check.specs.FieldCheck.{fieldsHold}
-use Rattle.field_layout.specs.Layout.{slot, groupsAt, beamAt, columnAt, meshAt}
-use Rattle.encoding.specs.ScheduleBytes.{listNumbers, beamNumbers, columnNumbers, meshNumbers}
+use Rattle.field_layout.specs.Layout.{slot, part, groupsAt, beamAt, columnAt, meshAt}
+use Rattle.field_layout.proofs.Held.{beam-fields-held}
+use Rattle.encoding.specs.ScheduleBytes.{listNumbers, loadNumbers, beamNumbers, columnNumbers, meshNumbers}
 use Rattle.encoding.specs.FieldNumbers.{fieldNumbers}
 use Rattle.encoding.proofs.Rows.{tension-few, compression-few, column-few}
 
@@ -60,16 +61,24 @@ module _ (v : List ℕ) (k : ℕ) where
 -- ---- By kind.
 
 module _ (v : List ℕ) where
-  beam-numbers : fieldsHold beamFields 0 v ≡ true → presentNumbers beamFields 0 v ≡ beamNumbers (beamAt v)
+  -- what follows a beam's lists
+  last-numbers : (pointLoad : Bool) → presentNumbers (drop 26 (beamFieldsOf pointLoad)) 26 v ≡ part v 26 11 ++ loadNumbers (beamAt pointLoad v .load)
+  unfolding presentNumbers isPresent beamAt
+  last-numbers false = refl
+  last-numbers true = refl
+
+  beam-numbers : (pointLoad : Bool) → fieldsHold (beamFieldsOf pointLoad) 0 v ≡ true → presentNumbers (beamFieldsOf pointLoad) 0 v ≡ beamNumbers (beamAt pointLoad v)
   unfolding presentNumbers isPresent beamAt beamNumbers
-  beam-numbers e =
-      numbers-append (take 8 beamFields) (drop 8 beamFields) 0 v
-      ∙ ap (λ (x : List ℕ). presentNumbers (take 8 beamFields) 0 v ++ x)
-      (numbers-append (Range 1 4 ∷ groups tensionCount) (drop 17 beamFields) 8 v
-      ∙ ap (λ (x : List ℕ). x ++ presentNumbers (drop 17 beamFields) 17 v) (counted v tensionCount (slot v tensionCount) refl (tension-few v e))
+  beam-numbers pointLoad e =
+      let fs = beamFieldsOf pointLoad in
+      numbers-append (take 8 fs) (drop 8 fs) 0 v
+      ∙ ap (λ (x : List ℕ). presentNumbers (take 8 fs) 0 v ++ x)
+      (numbers-append (Range 1 4 ∷ groups tensionCount) (drop 17 fs) 8 v
+      ∙ ap (λ (x : List ℕ). x ++ presentNumbers (drop 17 fs) 17 v) (counted v tensionCount (slot v tensionCount) refl (tension-few v (beam-fields-held pointLoad v e)))
       ∙ ap (λ (x : List ℕ). listNumbers (groupsAt v tensionCount) ++ x)
-      (numbers-append (Range 0 4 ∷ groups compressionCount) (drop 26 beamFields) 17 v
-      ∙ ap (λ (x : List ℕ). x ++ presentNumbers (drop 26 beamFields) 26 v) (counted v compressionCount (slot v compressionCount) refl (compression-few v e))))
+      (numbers-append (Range 0 4 ∷ groups compressionCount) (drop 26 fs) 17 v
+      ∙ ap (λ (x : List ℕ). x ++ presentNumbers (drop 26 fs) 26 v) (counted v compressionCount (slot v compressionCount) refl (compression-few v (beam-fields-held pointLoad v e)))
+      ∙ ap (λ (x : List ℕ). listNumbers (groupsAt v compressionCount) ++ x) (last-numbers pointLoad)))
 
   column-numbers : fieldsHold columnFields 0 v ≡ true → presentNumbers columnFields 0 v ≡ columnNumbers (columnAt v)
   unfolding presentNumbers isPresent columnAt columnNumbers
@@ -81,6 +90,6 @@ module _ (v : List ℕ) where
 
   pub present-numbers : (kind : MemberKind) → fieldsHold (fieldsOf kind) 0 v ≡ true → presentNumbers (fieldsOf kind) 0 v ≡ fieldNumbers kind v
   unfolding fieldsOf fieldNumbers presentNumbers isPresent meshAt meshNumbers
-  present-numbers kinds.Beam e = beam-numbers e
+  present-numbers (kinds.Beam pointLoad) e = beam-numbers pointLoad e
   present-numbers kinds.Column e = column-numbers e
   present-numbers kinds.Mesh e = refl

@@ -87,7 +87,7 @@ member-back before mark number v p pre rest =
     let agree : Agree fs v (r .slots) = λ k h t. rw zero-add at (r .agrees k (ltb→lt k (length fs) h) t) in
     let numbers : memberNumbers (memberAt mark kind v) ≡ (mark ∷ number ∷ presentNumbers fs 0 v) = rw (present-numbers v kind (p .built .held)) (sym (member-numbers mark number v (p .built .is-known))) in
     let m-small : mark < 2 ^ 32 = omega (arith, in-between {lo = 1} {hi = 999999} {x = mark} (p .built .mark-in-range)) in
-    let k-small : number < 2 ^ 32 = omega (arith, in-between {lo = 1} {hi = 3} {x = number} (p .built .is-known)) in
+    let k-small : number < 2 ^ 32 = omega (arith, in-between {lo = 1} {hi = 4} {x = number} (p .built .is-known)) in
     let s = pre ++ ((a ++ (b ++ n)) ++ rest) in
     let m : numberAt s (length pre) ≡ Value mark (length (pre ++ a)) = rw (from-mark pre a b n rest, length-append) (bytes-read mark m-small pre (b ++ (n ++ rest))) in
     let k : numberAt s (length (pre ++ a)) ≡ Value number (length pre2) = rw (from-kind pre a b n rest, length-append (pre ++ a) b) (bytes-read number k-small (pre ++ a) (n ++ rest)) in
@@ -140,7 +140,7 @@ records-in-range (x ∷ xs) before i ms e =
     let o = records-in-range xs (x .mark) (i + 1) (r .others) (r .passes) in
     (((p .mark-in-range, p .is-known, p .held), o .0), rw (r .list, o .1))
 
-pub records-most : (xs : List Built) → AllInRange xs → length (recordsBytes xs) ≤ 59 * length xs
+pub records-most : (xs : List Built) → AllInRange xs → length (recordsBytes xs) ≤ 61 * length xs
 unfolding recordsBytes membersBytes
 records-most [] h = omega arith
 records-most (x ∷ xs) h =
@@ -157,11 +157,11 @@ module _ (xs : List Built) (ms : List Member) (few : length xs ≤ 500) (e : rec
   same-length : length ms ≡ length xs
   same-length = record-members-length xs 0 1 ms e
 
-  pub file-most : length (scheduleBytes ms) ≤ 2 + 59 * length ms
+  pub file-most : length (scheduleBytes ms) ≤ 2 + 61 * length ms
   unfolding scheduleBytes recordsBytes
   file-most =
       let r = records-in-range xs 0 1 ms e in
-      let m : length (membersBytes ms) ≤ 59 * length xs = rw (r .1) at (records-most xs (r .0)) in
+      let m : length (membersBytes ms) ≤ 61 * length xs = rw (r .1) at (records-most xs (r .0)) in
       rw (same-length, length-append) (omega (arith, count-most (length xs) few, m))
 
   pub file-short : length (scheduleBytes ms) ≤ 60000

@@ -1,7 +1,7 @@
--- How many bytes a member has: at most 59, so that no file exceeds 60,000.
+-- How many bytes a member has: at most 61, so that no file exceeds 60,000.
 use Prim.Native.Nat.{ℕ, zero, suc, _+_, _/_, _≤_, _<_}
 use mathlib.Core.Path.{_≡_}
-use mathlib.Core.Bool.{true}
+use mathlib.Core.Bool.{true, false}
 use mathlib.Core.List.{List, [], _∷_}
 use native.Mathlib.Decide.{decLe}
 use native.Mathlib.Omega.{arith}
@@ -90,20 +90,21 @@ fields-most (d ∷ ds) i v e =
     (λ p. rw length-append (omega (arith, h, bytes-most (slot v i) (largest d) (at-most d i v p (f .0)))))
     (λ p. omega (arith, h))
 
-kind-most : (kind : MemberKind) → total (fieldsOf kind) ≤ 55
+kind-most : (kind : MemberKind) → total (fieldsOf kind) ≤ 57
 unfolding total largest fieldsOf bytesOf septetsOf
-kind-most kinds.Beam = omega arith
+kind-most (kinds.Beam false) = omega arith
+kind-most (kinds.Beam true) = omega arith
 kind-most kinds.Column = omega arith
 kind-most kinds.Mesh = omega arith
 
 -- ---- A member.
 
 pub member-most : (mark number : ℕ) (v : List ℕ) → markInRange mark ≡ true → known number ≡ true → fieldsHold (fieldsOf (kindOf number)) 0 v ≡ true
-    → length (bytesOfAll (memberNumbers (memberAt mark (kindOf number) v))) ≤ 59
+    → length (bytesOfAll (memberNumbers (memberAt mark (kindOf number) v))) ≤ 61
 unfolding markInRange known bytesOf septetsOf bytesOfAll
 member-most mark number v m k e =
     let fs = fieldsOf (kindOf number) in
     let a : length (bytesOf mark) ≤ 3 = bytes-most mark 999999 (in-between {lo = 1} {hi = 999999} m .1) in
-    let b : length (bytesOf number) ≤ 1 = bytes-most number 3 (in-between {lo = 1} {hi = 3} k .1) in
+    let b : length (bytesOf number) ≤ 1 = bytes-most number 4 (in-between {lo = 1} {hi = 4} k .1) in
     rw (← member-numbers mark number v k, ← present-numbers v (kindOf number) e, length-append, length-append)
     (omega (arith, a, b, fields-most fs 0 v e, kind-most (kindOf number)))

@@ -1,11 +1,11 @@
 -- Slots past a count are not read: slots that agree where a field is there hold the same member.
 use Prim.Native.Nat.{ℕ, zero, suc, _+_, _-_, _<_}
 use mathlib.Core.Path.{_≡_, refl, ap, _∙_}
-use mathlib.Core.Bool.{true}
+use mathlib.Core.Bool.{Bool, true, false}
 use mathlib.Core.List.{List, [], _∷_, _++_}
 use native.Mathlib.Omega.{arith}
 use lib.Dec.{T, ltb, ltb→lt, lt→ltb}
-use lib.ListN.{length, getD, take, drop, length-append}
+use lib.ListN.{length, getD, take, drop, length-append, List·getD-append}
 use borrow.Author.Tests.{lt-ltb}
 use Rattle.bars.specs.declared.Group.{Group}
 use Rattle.member.specs.Member.{beam, column, mesh}
@@ -14,9 +14,9 @@ use Rattle.field_domain.specs.declared.Domain.the-variants.{Grade, GroupDiamete
 use Rattle.field_domain.specs.Domain.{isPresent}
 use Rattle.field_table.specs.declared.MemberKind.{MemberKind}
 use Rattle.field_table.specs.declared.MemberKind.the-variants as kinds
-use Rattle.field_table.specs.Fields.{tensionCount, compressionCount, columnCount, groups, beamFields, columnFields, meshFields, fieldsOf}
+use Rattle.field_table.specs.Fields.{tensionCount, compressionCount, columnCount, shearSpan, groups, beamFields, loadFields, beamFieldsOf, columnFields, meshFields, fieldsOf}
 use Rattle.field_table.proofs.Tables.{in-middle}
-use Rattle.field_layout.specs.Layout.{slot, group, groupsAt, beamAt, columnAt, meshAt, memberAt}
+use Rattle.field_layout.specs.Layout.{slot, group, groupsAt, loadAt, beamAt, columnAt, meshAt, memberAt}
 
 -- w holds what v holds, wherever v's counts name a field
 abbrev pub Agree : List Domain → List ℕ → List ℕ → Type 0
@@ -61,12 +61,26 @@ in-table v w k xs zs e a j t p =
     let l : k + suc j < length (xs ++ (groups k ++ zs)) = simp length-append (omega arith) in
     a (k + suc j) (lt→ltb _ _ l) (rw (← m, i) p)
 
+-- the first of two tables
+first-agree : (v w : List ℕ) (xs ys : List Domain) → Agree (xs ++ ys) v w → Agree xs v w
+first-agree v w xs ys a k t p =
+    let h : k < length xs = ltb→lt k (length xs) t in
+    let l : k < length (xs ++ ys) = simp length-append (omega arith) in
+    a k (lt→ltb _ _ l) (rw (List·getD-append xs ys Grade k h) p)
+
 -- ---- Members.
 
 module _ (v w : List ℕ) where
-  beam-same : Agree beamFields v w → beamAt w ≡ beamAt v
+  -- what a beam is loaded by: a, where it is under a point load
+  load-same : (pointLoad : Bool) → Agree (beamFieldsOf pointLoad) v w → loadAt pointLoad (slot w shearSpan) ≡ loadAt pointLoad (slot v shearSpan)
+  unfolding isPresent
+  load-same false a = refl
+  load-same true a = rw (a shearSpan tt refl)
+
+  beam-same : (pointLoad : Bool) → Agree (beamFieldsOf pointLoad) v w → beamAt pointLoad w ≡ beamAt pointLoad v
   unfolding beamAt isPresent
-  beam-same a =
+  beam-same pointLoad with-load =
+      let a = first-agree v w beamFields (loadFields pointLoad) with-load in
       rw (
         groups-same v w tensionCount (a 8 tt refl) (in-table v w tensionCount (take 9 beamFields) (drop 17 beamFields) refl a),
         groups-same v w compressionCount (a 17 tt refl) (in-table v w compressionCount (take 18 beamFields) (drop 26 beamFields) refl a),
@@ -89,6 +103,7 @@ module _ (v w : List ℕ) where
         a 34 tt refl,
         a 35 tt refl,
         a 36 tt refl,
+        load-same pointLoad with-load,
       )
 
   column-same : Agree columnFields v w → columnAt w ≡ columnAt v
@@ -113,6 +128,6 @@ module _ (v w : List ℕ) where
 
   pub member-same : (mark : ℕ) (kind : MemberKind) → Agree (fieldsOf kind) v w → memberAt mark kind w ≡ memberAt mark kind v
   unfolding memberAt fieldsOf
-  member-same mark kinds.Beam a = ap (beam mark) (beam-same a)
+  member-same mark (kinds.Beam pointLoad) a = ap (beam mark) (beam-same pointLoad a)
   member-same mark kinds.Column a = ap (column mark) (column-same a)
   member-same mark kinds.Mesh a = ap (mesh mark) (mesh-same a)

@@ -11,7 +11,7 @@ use Rattle.member.specs.Member.{Beam}
 use Rattle.bars.specs.Sums.{area}
 use Rattle.member.specs.Accepted.{AcceptedBeam}
 use Rattle.bars.proofs.Groups.{sums, some-bars, bars-least, area-least-by-bars}
-use Rattle.member.proofs.Accepted.{depth-least}
+use Rattle.member.proofs.Accepted.{depth-least, load-within-more}
 use Rattle.section.specs.Section.{sectionOf}
 use Rattle.section.specs.Bounded.{Bounded}
 
@@ -56,4 +56,5 @@ bounded x a =
       concrete = usable-concrete (x .concrete) (a .concrete);
       steel = usable-steel (x .steel) (a .steel);
       fyv = usable-links (x .linkSteel) (a .linkSteel);
+      load-most = load-within-more (x .load) (x .l₀) 12000 (a .load-within) (a .l₀-most);
     }

@@ -42,6 +42,7 @@ module _ (x : Beam) (h0 : Length) (flange compression links : ℕ) (t : Totals) 
         concrete = m;
         steel = s;
         fyv = f;
+        load = x .load;
       }
 
   pub made : h0 .0 ≡ h₀ (beamOf x) → flange ≡ sectionOf (beamOf x) .flange → TotalsOf (beamOf x .tension) t →

@@ -2,6 +2,7 @@
 use Prim.Native.Nat.{_*_, _≤_}
 use mathlib.Core.Path.{_≡_}
 use Rattle.material.specs.Bounds.{UsableConcrete, UsableSteel, WholeUpTo}
+use Rattle.member.specs.Accepted.{LoadWithin}
 use Rattle.section.specs.declared.Section.{Section}
 use Rattle.section.specs.Section.{b, h, h₀, a′, s, c, l₀, flange, G, S, S′, L, E, D, M, Mq, Vd}
 
@@ -35,3 +36,4 @@ pub record Bounded (x : Section) : Type 0 where
   pub concrete : UsableConcrete (x .concrete)
   pub steel : UsableSteel (x .steel)
   pub fyv : WholeUpTo 600 (x .fyv)
+  pub load-most : LoadWithin 12000 (x .load)

@@ -126,6 +126,7 @@ sectionWith x concrete steel fyv =
       concrete = concrete;
       steel = steel;
       fyv = fyv;
+      load = x .load;
     }
 
 -- with the materials that its fields name

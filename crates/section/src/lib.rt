@@ -12,6 +12,7 @@ use material::concrete_of;
 use material::fyv_of;
 use material::steel_of;
 use member::Beam;
+use member::Load;
 use member::effective_depth;
 use quantity::Force;
 use quantity::Length;
@@ -49,6 +50,8 @@ pub struct Section {
     pub concrete: Concrete,
     pub steel: Steel,
     pub fyv: Stress,
+    // uniform, or a point load at the distance a
+    pub load: Load,
 }
 
 // (bf-b)·hf.
@@ -78,6 +81,7 @@ pub fn section_of(x: Beam) -> Section
     let c = x.c;
     let l0 = x.l0;
     let v = x.v;
+    let load = x.load;
     let tension = x.tension;
     let compression = x.compression;
     let bars = totals_of(tension, x.tensions);
@@ -104,5 +108,6 @@ pub fn section_of(x: Beam) -> Section
         concrete: concrete_of(x.concrete),
         steel: steel_of(x.steel),
         fyv: fyv_of(x.linkSteel),
+        load: load,
     }
 }

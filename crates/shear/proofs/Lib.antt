@@ -1,3 +1,4 @@
 pub mod Bounds
 pub mod Tests
 pub mod Exact
+pub mod NearSupport

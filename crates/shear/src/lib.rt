@@ -1,10 +1,14 @@
 // Shear and links of beams: shear capacity, spacing of links, least links.
 ghost use mathlib.Core.Path.{_≡_};
+ghost use Prim.Native.Nat.{_≤_};
 ghost use Rattle.quantity.specs.Unit.{newtons};
 ghost use Rattle.section.specs.Bounded.{Bounded};
-ghost use Rattle.shear.specs.Steps.{concretePart, concreteShear, linkShear, shearCapacity, shearAbove, linkSpacing, linksSuffice, leastLinks};
+ghost use Rattle.shear.specs.Steps.{concretePart, clampedRatio, concreteUnder, concreteShear, linkShear, shearCapacity, shearAbove, linkSpacing, linksSuffice, leastLinks};
 use code_tables::spacing_limit;
+use member::Load;
 use quantity::Force;
+use quantity::Length;
+use quantity::clamped;
 use quantity::div_down;
 use section::Section;
 
@@ -16,12 +20,36 @@ fn concrete_part(x: Section) -> u64
     7 * x.concrete.ft.in_hundredths() * x.b.in_millimetres() * x.h0.in_millimetres()
 }
 
+// The shear span ratio a/h0 held to 1.5 to 3, times 2·h0.
+fn clamped_ratio(x: Section, a: Length) -> u64
+    requires { ⌜ (Bounded x) × (a .0 ≤ 12000) ⌝ }
+    ensures { λ r. ⌜ r ≡ clampedRatio x a ⌝ }
+{
+    let h0 = x.h0.in_millimetres();
+    clamped(3 * h0, 6 * h0, 2 * a.in_millimetres())
+}
+
+// What the concrete carries of the shear of a point load.
+fn point_shear(x: Section, a: Length) -> Force
+    requires { ⌜ (Bounded x) × (a .0 ≤ 12000) ⌝ }
+    ensures { λ r. ⌜ r ≡ newtons (concreteUnder (Load.Point a) x) ⌝ }
+{
+    let h0 = x.h0.in_millimetres();
+    let ratio = clamped_ratio(x, a);
+    let part = 175 * x.concrete.ft.in_hundredths() * x.b.in_millimetres() * h0;
+    Force::of_newtons(div_down(part * (2 * h0), 10000 * (ratio + 2 * h0)))
+}
+
 // What the concrete carries of the shear.
 fn concrete_shear(x: Section) -> Force
     requires { ⌜ Bounded x ⌝ }
     ensures { λ r. ⌜ r ≡ newtons (concreteShear x) ⌝ }
 {
-    Force::of_newtons(div_down(concrete_part(x), 1000))
+    let load = x.load;
+    match load {
+        Load::Uniform => Force::of_newtons(div_down(concrete_part(x), 1000)),
+        Load::Point(a) => point_shear(x, a),
+    }
 }
 
 // What the links carry of the shear.

@@ -1,5 +1,6 @@
 -- The utilizations of an accepted member are the nearest doubles, and each decides its check.
 use Prim.Native.Nat.{ℕ, _*_, _^_, _≤_, _<_}
+use mathlib.Core.Bool.{Bool}
 use mathlib.Core.Path.{_≡_, _∙_}
 use mathlib.Core.List.{List}
 use native.Mathlib.Nat.{mul-le-mul-left, mul-le-mul-right}
@@ -131,9 +132,9 @@ member-nonneg m a = rw (member-nearest m a) (nearest-member-nonneg m a)
 -- ---- By kind.
 
 module _ (mark : ℕ) (v : List ℕ) (o : Outcome) {kind : MemberKind} {u : Utilization} where
-  pub of-beam : {x : Beam} → kind ≡ kinds.Beam → x ≡ beamAt v → u ≡ beamUtilization quotient x o → u ≡ utilizationOf quotient (memberAt mark kind v) o
+  pub of-beam : {x : Beam} (pointLoad : Bool) → kind ≡ kinds.Beam pointLoad → x ≡ beamAt pointLoad v → u ≡ beamUtilization quotient x o → u ≡ utilizationOf quotient (memberAt mark kind v) o
   unfolding memberAt
-  of-beam p q e = rw p (e ∙ rw q)
+  of-beam pointLoad p q e = rw p (e ∙ rw q)
 
   pub of-column : {x : Column} → kind ≡ kinds.Column → x ≡ columnAt v → u ≡ columnUtilization quotient x o → u ≡ utilizationOf quotient (memberAt mark kind v) o
   unfolding memberAt

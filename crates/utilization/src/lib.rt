@@ -95,7 +95,7 @@ fn member_utilization(mark: u32, kind: MemberKind, v: &[u32; 40], o: Outcome) ->
     ensures { λ r. ⌜ r ≡ utilizationOf quotient (memberAt mark kind (now (v .entry))) o ⌝ }
 {
     match kind {
-        MemberKind::Beam => beam_utilization(beam_of(v), o),
+        MemberKind::Beam(pointLoad) => beam_utilization(beam_of(pointLoad, v), o),
         MemberKind::Column => column_utilization(column_of(v), o),
         MemberKind::Mesh => mesh_utilization(mesh_of(v), o),
     }

@@ -19,7 +19,7 @@ use Rattle.field_table.specs.Fields.{tensionCount, compressionCount, columnCoun
 use Rattle.field_check.specs.FieldCheck.{fieldsHold}
 use Rattle.field_layout.specs.Layout.{memberAt, groupsAt, beamAt, columnAt, meshAt}
 use Rattle.field_domain.proofs.InRange.{in-between}
-use Rattle.field_layout.proofs.Held.{in-range, zero-or, in-bars, a-grade, a-steel, a-link-steel, groups-some, beam-held, tension-accepted, compression-accepted, column-held, column-groups-accepted, mesh-held}
+use Rattle.field_layout.proofs.Held.{in-range, zero-or, in-bars, a-grade, a-steel, a-link-steel, groups-some, beam-fields-held, beam-held, tension-accepted, compression-accepted, column-held, column-groups-accepted, mesh-held}
 use Rattle.question.specs.declared.Verdict.{Verdict}
 use Rattle.question.specs.declared.Verdict.the-variants.{Accepted}
 use Rattle.verdict.specs.Verdict.{markInRange, memberVerdict, fieldsVerdict, builtVerdict, askVerdict, beamVerdict, columnVerdict, meshVerdict}
@@ -35,9 +35,9 @@ asked-yes q false next e = absurd (let z : _≡_ {A = ℕ} 0 1 = cc in omega ari
 
 -- ---- A beam.
 
-module _ (v : List ℕ) (e : fieldsHold beamFields 0 v ≡ true) where
-  with-relations : Related (beamAt v) → (barCount (groupsAt v tensionCount) ≤ 40) × (barCount (groupsAt v compressionCount) ≤ 40)
-      → 5 * area (groupsAt v tensionCount) ≤ 2 * beamAt v .b * h₀ (beamAt v) → AcceptedBeam (beamAt v)
+module _ (pointLoad : Bool) (v : List ℕ) (e : fieldsHold beamFields 0 v ≡ true) where
+  with-relations : Related (beamAt pointLoad v) → (barCount (groupsAt v tensionCount) ≤ 40) × (barCount (groupsAt v compressionCount) ≤ 40)
+      → 5 * area (groupsAt v tensionCount) ≤ 2 * beamAt pointLoad v .b * h₀ (beamAt pointLoad v) → AcceptedBeam (beamAt pointLoad v)
   unfolding beamAt
   with-relations r n s =
       record {
@@ -78,15 +78,16 @@ module _ (v : List ℕ) (e : fieldsHold beamFields 0 v ≡ true) where
         faces = r .faces;
         cover = r .cover;
         slender = r .slender;
+        load-within = r .load-within;
         tension-bars = n .0;
         compression-bars = n .1;
         ratio = s;
       }
 
-  pub accepted-beam : beamVerdict (beamAt v) ≡ Accepted → AcceptedBeam (beamAt v)
+  pub accepted-beam : beamVerdict (beamAt pointLoad v) ≡ Accepted → AcceptedBeam (beamAt pointLoad v)
   unfolding beamVerdict beamAt
   accepted-beam a =
-      let x = beamAt v in
+      let x = beamAt pointLoad v in
       let r = asked-yes Consistency (beamConsistent x) _ a in
       let n = asked-yes Bars (beamBars x) _ (r .1) in
       let s = asked-yes Ratio (beamRatio x) _ (n .1) in
@@ -151,7 +152,7 @@ module _ (mark : ℕ) (v : List ℕ) (m : markInRange mark ≡ true) where
 
   pub accepted-member : (kind : MemberKind) → fieldsHold (fieldsOf kind) 0 v ≡ true → memberVerdict kind v ≡ Accepted → AcceptedMember (memberAt mark kind v)
   unfolding memberAt memberVerdict fieldsOf
-  accepted-member kinds.Beam e a = (in-marks, accepted-beam v e a)
+  accepted-member (kinds.Beam pointLoad) e a = (in-marks, accepted-beam pointLoad v (beam-fields-held pointLoad v e) a)
   accepted-member kinds.Column e a = (in-marks, accepted-column v e a)
   accepted-member kinds.Mesh e a = (in-marks, accepted-mesh v e a)
 

@@ -31,11 +31,11 @@ pub struct Built {
 }
 
 // 8 to 10 of a beam whose fields passed question 7.
-fn beam_verdict(v: &[u32; 40]) -> Verdict
+fn beam_verdict(pointLoad: bool, v: &[u32; 40]) -> Verdict
     requires { ⌜ fieldsHold beamFields 0 (now v) ≡ true ⌝ }
-    ensures { λ r. ⌜ r ≡ beamVerdict (beamAt (now (v .entry))) ⌝ }
+    ensures { λ r. ⌜ r ≡ beamVerdict (beamAt pointLoad (now (v .entry))) ⌝ }
 {
-    let x = beam_of(v);
+    let x = beam_of(pointLoad, v);
     if beam_consistent(x) {
         if beam_bars(x) {
             if beam_ratio(x) {
@@ -85,7 +85,7 @@ pub fn member_verdict(kind: MemberKind, v: &[u32; 40]) -> Verdict
     ensures { λ r. ⌜ r ≡ memberVerdict kind (now (v .entry)) ⌝ }
 {
     match kind {
-        MemberKind::Beam => beam_verdict(v),
+        MemberKind::Beam(pointLoad) => beam_verdict(pointLoad, v),
         MemberKind::Column => column_verdict(v),
         MemberKind::Mesh => mesh_verdict(v),
     }

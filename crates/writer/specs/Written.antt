@@ -25,9 +25,9 @@ fileOf words = andThen (heldMembers words) (λ ms. got (scheduleBytes ms))
 abbrev pub fileTooLong : Refusal
 fileTooLong = refusal File 0
 
--- no file of n members has more bytes: two for their number, 59 for each
+-- no file of n members has more bytes: two for their number, 61 for each
 abbrev pub mostBytes : ℕ → ℕ
-mostBytes n = 2 + 59 * n
+mostBytes n = 2 + 61 * n
 
 -- of all strings of bytes, this file alone is read as ms
 abbrev pub OnlyFile : List Member → List ℕ → Type 0

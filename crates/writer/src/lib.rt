@@ -58,12 +58,12 @@ fn write_measured(words: &[u32], count: u32, out: &mut [u8]) -> TextAnswer
     }
 }
 
-// The same. The count of at most 500 takes two bytes at most and no member more than 59, so a buffer of 2 + 59·count bytes needs no first run.
+// The same. The count of at most 500 takes two bytes at most and no member more than 61, so a buffer of 2 + 61·count bytes needs no first run.
 fn write_records(words: &[u32], count: u32, out: &mut [u8]) -> TextAnswer
     requires { ⌜ (count ≤ 500) × (count * recordWords ≤ length (now words)) × AllInRange (recordsFrom count (now words) 0) ⌝ }
     ensures { λ r. ⌜ Printed fileTooLong (bytesOf count ++ recordsBytes (recordsFrom count (now (words .entry)) 0)) (now (out .entry)) (now (out .exit)) r ⌝ }
 {
-    if 2 + 59 * (count as usize) <= out.len() {
+    if 2 + 61 * (count as usize) <= out.len() {
         TextAnswer::Written(put_schedule(words, count, out))
     } else {
         write_measured(words, count, out)

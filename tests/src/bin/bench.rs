@@ -5,17 +5,27 @@ use std::hint::black_box;
 use koxaltes_tests::comparison::{Checker, Comparison, Library, Model};
 use koxaltes_tests::guard::List;
 use koxaltes_tests::make::words::of_file;
-use koxaltes_tests::make::{self, encode, Random, Record};
+use koxaltes_tests::make::{self, base, encode, Random, Record};
 use koxaltes_tests::measure::{interleaved, stack_use, Rounds, Timing, LONG, SHORT};
 use koxaltes_tests::model::built::Built;
 
 const ROOM: usize = 64_000;
 
-/// Members that are accepted and wanted, with rising marks.
+/// Members of the kinds 1 to 3 that are accepted and wanted, with rising marks.
 fn chosen(random: &Random, count: usize, wanted: impl Fn(&Record) -> bool) -> Vec<Record> {
+    chosen_of(base::random_member, random, count, wanted)
+}
+
+/// Members drawn so, accepted and wanted, with rising marks.
+fn chosen_of(
+    draw: impl Fn(&Random) -> Record,
+    random: &Random,
+    count: usize,
+    wanted: impl Fn(&Record) -> bool,
+) -> Vec<Record> {
     let mut records = Vec::new();
     while records.len() < count {
-        let record = make::random_member(random);
+        let record = draw(random);
         if wanted(&record) && record.read().is_some() {
             records.push(record);
         }
@@ -27,6 +37,12 @@ fn chosen(random: &Random, count: usize, wanted: impl Fn(&Record) -> bool) -> Ve
 /// Whether a record is of the kind and passes all its checks, so that all figures are worked.
 fn passes(record: &Record, kind: u32) -> bool {
     record.kind == kind && record.read().is_some_and(|member| member.check().failed.is_none())
+}
+
+/// Point-loaded beams, OK. They are drawn apart, so that the other inputs stay as they are.
+fn point_loaded(count: usize) -> Vec<u8> {
+    let beam = |record: &Record| passes(record, 4);
+    encode(&chosen_of(make::random_point_loaded, &Random::new(4), count, beam))
 }
 
 /// Schedules that one call after the other reads, and the members in all of them.
@@ -59,6 +75,7 @@ fn inputs(random: &Random) -> Vec<Input> {
             schedules: (0..20).map(|_| encode(&chosen(random, 500, |_| true))).collect(),
             members: 10_000,
         },
+        one("(k) 500 point-loaded beams, OK", point_loaded(500), 500),
     ]
 }
 

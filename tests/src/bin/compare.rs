@@ -3,7 +3,7 @@
 use std::process::ExitCode;
 use std::time::Instant;
 
-use koxaltes_tests::branches::{required, required_of_writer, Tally};
+use koxaltes_tests::branches::{required, required_of_point_loads, required_of_writer, Tally};
 use koxaltes_tests::comparison::{Answers, Checker, Comparison, Library};
 use koxaltes_tests::make::Random;
 use koxaltes_tests::runs;
@@ -43,6 +43,7 @@ fn print_cases(title: &str, tally: &Tally) {
 /// Questions and cases that were not reached.
 fn gaps<C: Checker>(comparison: &Comparison<C>) -> Vec<String> {
     let mut missing = comparison.tally.missing(required());
+    missing.extend(comparison.tally.missing(required_of_point_loads()));
     missing.extend(comparison.writer_tally.missing(required_of_writer()));
     let mut gaps: Vec<String> = missing.iter().map(|case| format!("case {case:?}")).collect();
     let lists = [
@@ -76,7 +77,8 @@ fn main() -> ExitCode {
         println!("not reached: {gaps:#?}");
         return ExitCode::FAILURE;
     }
-    let cases = required().len() + required_of_writer().len();
+    let cases = [required(), required_of_point_loads(), required_of_writer()];
+    let cases: usize = cases.iter().map(Vec::len).sum();
     println!("{cases} cases required, all reached; {:.1?}", start.elapsed());
     println!(
         "compared {} schedules, {} built members, {} lists and {} written schedules: all equal",

@@ -1,9 +1,9 @@
 //! Which cases of the writer the compared lists of members reached.
 
-use super::{kind, Case, Tally};
+use super::{Case, Tally};
 use crate::make::flaws::QUESTIONS;
-use crate::make::words::{counts, end, GROUPS, KIND, MARK};
-use crate::make::written::{promised, LONGEST_MEMBER};
+use crate::make::words::{counts, end, GROUPS, KIND, LOAD, MARK, SPAN};
+use crate::make::written::{promised, LONGEST_BEAM, LONGEST_MEMBER};
 use crate::make::{decode, encode};
 use crate::model::held::{self, WORDS};
 use crate::model::schedule::{Refusal, MOST_MEMBERS};
@@ -15,20 +15,28 @@ const FAILED: &str = "kind written though it fails a check";
 const TENSION: &str = "tension groups written";
 const COMPRESSION: &str = "compression groups written";
 const COLUMN: &str = "column groups written";
+const POINT_TENSION: &str = "tension groups written, kind 4";
+const POINT_COMPRESSION: &str = "compression groups written, kind 4";
 const PAST_TENSION: &str = "junk after tension groups";
 const PAST_COMPRESSION: &str = "junk after compression groups";
 const PAST_COLUMN: &str = "junk after column groups";
+const PAST_POINT_TENSION: &str = "junk after tension groups, kind 4";
+const PAST_POINT_COMPRESSION: &str = "junk after compression groups, kind 4";
 const PAST_FIELDS: &str = "junk after the fields of kind";
+const LOAD_OF_1: &str = "kind 1, a (0 to l0, 1 above, 2 above 12000)";
+const LOAD_BYTES: &str = "bytes of a";
 const LONGEST: &str = "longest member, bytes";
 const NUMBER: &str = "bytes of a number";
 const MARK_BYTES: &str = "bytes of a mark";
 const ROOM: &str = "room (0 none, 1 one short, 2 exact, 3 more)";
-const PROMISED: &str = "room 2 + 59 n, shorter file, n";
-const ONE_LESS: &str = "room 2 + 59 n - 1, shorter file, n";
+const PROMISED: &str = "room 2 + 61 n, shorter file, n";
+const ONE_LESS: &str = "room 2 + 61 n - 1, shorter file, n";
 const NO_ROOM: &str = "no room, and no to";
 const TOO_MANY: &str = "4 (1 by one, 2 by 2^32 or more)";
 const MARK_REFUSED: &str = "5 (0 zero, 1 large, 2 as before, 3 falls)";
 const ABOVE_FOUR: &str = "7, count above 4 (10 kind + list)";
+const POINT_REFUSED: &str = "kind 4, no to";
+const UNKNOWN: &str = "6, kind";
 const FIRST: &str = "first member, no to";
 const LATER: &str = "later member, no to";
 const TWO_MEMBERS: &str = "no, and a later member's (100 q + q)";
@@ -64,6 +72,7 @@ impl Tally {
         self.add(KINDS, u64::from(kind));
         let names = match kind {
             1 => [(TENSION, PAST_TENSION), (COMPRESSION, PAST_COMPRESSION)],
+            4 => [(POINT_TENSION, PAST_POINT_TENSION), (POINT_COMPRESSION, PAST_POINT_COMPRESSION)],
             _ => [(COLUMN, PAST_COLUMN); 2],
         };
         for (&count, (groups, past)) in counts(kind).iter().zip(names) {
@@ -73,24 +82,33 @@ impl Tally {
             self.add_if(is_junk(&list[2 * named as usize..]), past, u64::from(named));
         }
         self.add_if(is_junk(&words[end(kind)..]), PAST_FIELDS, u64::from(kind));
+        let place = u64::from(words[LOAD] > words[SPAN]) + u64::from(words[LOAD] > 12_000);
+        self.add_if(kind == 1, LOAD_OF_1, place);
     }
 
     /// Members that fail a check: the writer puts none.
     fn checks_failed(&mut self, words: &[u32], length: usize) {
         for held in held::read(words, length).expect("an accepted list") {
-            self.add_if(held.member.check().failed.is_some(), FAILED, kind(&held.member));
+            self.add_if(held.member.check().failed.is_some(), FAILED, held.member.kind());
         }
     }
 
     /// How long the numbers and members of a schedule are.
     fn file(&mut self, file: &[u8]) {
         for record in decode(file) {
+            let kind = record.kind;
             let bytes = encode(&[record]);
             let mut numbers = bytes[1..].split_inclusive(|byte| *byte < 0x80);
             let mark = numbers.next().expect("a mark");
             self.add(MARK_BYTES, mark.len() as u64);
-            numbers.for_each(|number| self.add(NUMBER, number.len() as u64));
+            let mut last = mark;
+            for number in numbers {
+                self.add(NUMBER, number.len() as u64);
+                last = number;
+            }
+            self.add_if(kind == 4, LOAD_BYTES, last.len() as u64);
             let length = bytes.len() - 1;
+            self.add_if(kind == 1 && length == LONGEST_BEAM, LONGEST, length as u64);
             self.add_if(length == LONGEST_MEMBER, LONGEST, length as u64);
         }
     }
@@ -100,6 +118,8 @@ impl Tally {
         let question = u64::from(refusal.question);
         let (before, rest) = words.split_at(WORDS * (refusal.member as usize - 1));
         self.add(if before.is_empty() { FIRST } else { LATER }, question);
+        self.add_if(rest[KIND] == 4, POINT_REFUSED, question);
+        self.add_if(question == 6 && rest[KIND] < 10, UNKNOWN, u64::from(rest[KIND]));
         if question == 5 {
             let mark = rest[MARK];
             let last = before.chunks_exact(WORDS).last().map_or(0, |member| member[MARK]);
@@ -172,16 +192,24 @@ pub fn required_of_writer() -> Vec<Case> {
     };
     put(MEMBERS, &COUNTS);
     put(LEFT_OVER, &(0..WORDS as u64).collect::<Vec<u64>>());
-    put(KINDS, &[1, 2, 3]);
-    put(FAILED, &[1, 2, 3]);
-    put(TENSION, &[1, 2, 3, 4]);
-    put(COMPRESSION, &[0, 1, 2, 3, 4]);
-    put(COLUMN, &[1, 2, 3, 4]);
-    put(PAST_TENSION, &[1, 2, 3]);
-    put(PAST_COMPRESSION, &[0, 1, 2, 3]);
-    put(PAST_COLUMN, &[1, 2, 3]);
-    put(PAST_FIELDS, &[1, 2, 3]);
-    put(LONGEST, &[LONGEST_MEMBER as u64]);
+    put(KINDS, &[1, 2, 3, 4]);
+    put(FAILED, &[1, 2, 3, 4]);
+    for about in [TENSION, POINT_TENSION, COLUMN] {
+        put(about, &[1, 2, 3, 4]);
+    }
+    for about in [COMPRESSION, POINT_COMPRESSION] {
+        put(about, &[0, 1, 2, 3, 4]);
+    }
+    for about in [PAST_TENSION, PAST_POINT_TENSION, PAST_COLUMN] {
+        put(about, &[1, 2, 3]);
+    }
+    for about in [PAST_COMPRESSION, PAST_POINT_COMPRESSION] {
+        put(about, &[0, 1, 2, 3]);
+    }
+    put(PAST_FIELDS, &[1, 2, 3, 4]);
+    put(LOAD_OF_1, &[0, 1, 2]);
+    put(LOAD_BYTES, &[1, 2]);
+    put(LONGEST, &[LONGEST_BEAM as u64, LONGEST_MEMBER as u64]);
     put(NUMBER, &[1, 2, 3, 4, 5]);
     put(MARK_BYTES, &[1, 2, 3]);
     put(ROOM, &[0, 1, 2, 3]);
@@ -190,7 +218,9 @@ pub fn required_of_writer() -> Vec<Case> {
     put(NO_ROOM, &[4, 5, 6, 7, 8, 9, 10]);
     put(TOO_MANY, &[1, 2]);
     put(MARK_REFUSED, &[0, 1, 2, 3]);
-    put(ABOVE_FOUR, &[11, 12, 21]);
+    put(ABOVE_FOUR, &[11, 12, 21, 41, 42]);
+    put(POINT_REFUSED, &[5, 7, 8, 9, 10]);
+    put(UNKNOWN, &[0, 5]);
     put(FIRST, &QUESTIONS.map(u64::from));
     put(LATER, &QUESTIONS.map(u64::from));
     put(TWO_MEMBERS, &pairs(|_, _| true));

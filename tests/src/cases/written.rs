@@ -1,11 +1,11 @@
-//! Schedules written: document 01's members, and the edges of request 2.
+//! Schedules written: document 01's members, a point-loaded beam, and the edges of request 2.
 
 use std::path::Path;
 
 use super::{beam, column, mesh};
 use crate::make::record::place;
-use crate::make::words::{counts, end, of_records, GROUPS, KIND, MARK};
-use crate::make::written::{self, LONGEST_MEMBER};
+use crate::make::words::{counts, end, of_records, GROUPS, KIND, LOAD, MARK};
+use crate::make::written::{self, LONGEST_BEAM, LONGEST_MEMBER};
 use crate::make::{encode, Random, Record};
 use crate::model::held::WORDS;
 use crate::model::writing::write_schedule;
@@ -32,6 +32,11 @@ fn words(records: &[Record]) -> Vec<u32> {
 
 fn three() -> [Record; 3] {
     [beam(), column(), mesh()]
+}
+
+/// Document 01's beam 1 under a point load, with a mark after the three.
+fn point_loaded(distance: u64) -> Record {
+    Record { mark: 4, ..beam().point_loaded(distance) }
 }
 
 #[test]
@@ -61,6 +66,37 @@ fn places_of_words() {
     words[57..61].copy_from_slice(&[8, 250, 4000, 2_500_000]);
     words[84..97].copy_from_slice(&[3, 3, 1, 30, 10, 1, 0, 0, 3, 1, 0, 270, 350]);
     assert_eq!(file(&words), Ok(encode(&three())));
+}
+
+/// Kind 4 has kind 1's words, then a in slot 37.
+#[test]
+fn place_of_the_load() {
+    let mut words = [0; WORDS];
+    let head = [4, 4, 250, 500, 250, 0, 40, 0, 30, 1, 1, 20, 4];
+    words[..13].copy_from_slice(&head);
+    let tail = [8, 2, 200, 1, 30, 6000, 150_000, 90_000, 120_000, 1, 0, 1000];
+    words[28..40].copy_from_slice(&tail);
+    let bytes = encode(&[point_loaded(1000)]);
+    assert_eq!(bytes[bytes.len() - 4..], [1, 0, 0xe8, 7]);
+    assert_eq!(file(&words), Ok(bytes));
+    for (distance, answer) in [(6001, 8), (12_000, 8), (12_001, 7), (u32::MAX, 7)] {
+        words[LOAD] = distance;
+        assert_eq!(file(&words), Err((answer, 1)));
+        words[KIND] = 1;
+        assert_eq!(file(&words), Ok(encode(&[Record { mark: 4, ..beam() }])));
+        words[KIND] = 4;
+    }
+}
+
+/// Kind 1, and kind 4 with a = 0: other members, other files.
+#[test]
+fn load_at_the_support() {
+    let (one, four) = (Record { mark: 4, ..beam() }, point_loaded(0));
+    let files = [one, four].map(|record| file(&words(&[record])).unwrap());
+    assert_eq!(files[1].len(), files[0].len() + 1);
+    assert_eq!((files[0][2], files[1][2]), (1, 4));
+    assert_eq!(files[0][3..], files[1][3..files[0].len()]);
+    assert_eq!(files[1].last(), Some(&0));
 }
 
 #[test]
@@ -107,9 +143,11 @@ fn number_of_members() {
 /// Any word may stand past a count and past the last field.
 #[test]
 fn words_without_effect() {
-    let base = words(&three());
+    let [first, second, third] = three();
+    let records = [first, second, third, point_loaded(1000)];
+    let base = words(&records);
     let mut tried = 0;
-    for member in 0..3 {
+    for member in 0..4 {
         let words = &base[WORDS * member..][..WORDS];
         let kind = words[KIND];
         let past_counts = counts(kind).iter().flat_map(|&count| {
@@ -120,22 +158,24 @@ fn words_without_effect() {
             for value in [0, 1, 20, u32::MAX] {
                 let mut words = base.clone();
                 words[WORDS * member + place] = value;
-                assert_eq!(file(&words), Ok(encode(&three())), "{member} {place}");
+                assert_eq!(file(&words), Ok(encode(&records)), "{member} {place}");
                 tried += 1;
             }
         }
     }
-    assert_eq!(tried, 4 * (6 + 8 + 3 + 6 + 23 + 29));
+    assert_eq!(tried, 4 * (6 + 8 + 3 + 6 + 23 + 29 + 6 + 8 + 2));
 }
 
 /// Document 02: no written file exceeds 60,000 bytes.
 #[test]
 fn longest_member() {
-    let one = [written::longest_beam(16_384)];
-    assert_eq!(file(&words(&one)).map(|file| file.len()), Ok(1 + LONGEST_MEMBER));
-    let records: Vec<Record> = (999_500..1_000_000).map(written::longest_beam).collect();
+    let one = |record| file(&words(&[record])).map(|file| file.len());
+    assert_eq!(one(written::longest_beam(16_384)), Ok(1 + LONGEST_BEAM));
+    assert_eq!(one(written::longest_member(16_384)), Ok(1 + LONGEST_MEMBER));
+    let records: Vec<Record> = (999_500..1_000_000).map(written::longest_member).collect();
     let bytes = file(&words(&records)).unwrap();
-    assert_eq!(bytes.len(), 2 + 500 * LONGEST_MEMBER);
+    assert_eq!(bytes.len(), 30_502);
+    assert_eq!(bytes.len(), written::promised(500));
     assert_eq!(bytes, encode(&records));
 }
 
@@ -171,6 +211,6 @@ fn buffer_asked_last() {
     }
     records[1].fields[place::column::B] = 401;
     assert_eq!(file_in(&words(&records), 0), Err((8, 2)));
-    records[0].kind = 4;
+    records[0].kind = 5;
     assert_eq!(file_in(&words(&records), 0), Err((6, 1)));
 }

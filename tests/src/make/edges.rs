@@ -44,6 +44,9 @@ const BEAM: &[Tried] = &[
     (beam::STRICT, FLAGS),
 ];
 
+/// What kind 4 has after kind 1's fields.
+const POINT_LOAD: &[Tried] = &[(beam::LOAD, &[0, 1, 11_999, 12_000, 12_001, HUGE])];
+
 const COLUMN: &[Tried] = &[
     (column::B, &[0, 299, 300, 1500, 1501, HUGE]),
     (column::H, &[0, 299, 300, 1500, 1501, HUGE]),
@@ -70,17 +73,26 @@ const MESH: &[Tried] = &[
     (mesh::LAP_GIVEN, LENGTHS),
 ];
 
+/// What to try in the fields of a kind.
+fn tried(kind: u32) -> Vec<Tried> {
+    match kind {
+        1 => BEAM.to_vec(),
+        2 => COLUMN.to_vec(),
+        3 => MESH.to_vec(),
+        _ => [BEAM, POINT_LOAD].concat(),
+    }
+}
+
 /// A record with every tried value in every field, mark and kind included.
 pub fn field_edges(record: &Record) -> Vec<Record> {
     let mut records = Vec::new();
-    let tried = [BEAM, COLUMN, MESH][record.kind as usize - 1];
-    for &(field, values) in tried {
+    for (field, values) in tried(record.kind) {
         records.extend(values.iter().map(|&value| record.with(field, u64::from(value))));
     }
     for mark in [0, 1, 999_999, 1_000_000, HUGE] {
         records.push(Record { mark, ..record.clone() });
     }
-    for kind in [0, 1, 2, 3, 4, 5, HUGE] {
+    for kind in [0, 1, 2, 3, 4, 5, 6, HUGE] {
         records.push(Record { kind, ..record.clone() });
     }
     records
@@ -148,6 +160,18 @@ fn consistency(base: &Record) -> Vec<Record> {
     records
 }
 
+/// Question 8 at its edges, with the point load at the support; then the load around each span.
+fn point_load_consistency(base: &Record) -> Vec<Record> {
+    use beam::*;
+    let mut records = consistency(&base.with(LOAD, 0));
+    for span in [base.fields[SPAN], 1000, 1001, 6000, 11_999, 12_000] {
+        for distance in [0, 1, span - 1, span, span + 1, 12_000, 12_001] {
+            records.push(with_all(base, &[(SPAN, span), (LOAD, distance)]));
+        }
+    }
+    records
+}
+
 /// Lists with 39 to 41 bars, and one to five groups.
 fn bar_lists() -> Vec<Vec<Group>> {
     let list = |counts: &[u32]| counts.iter().map(|&bars| Group { diameter: 6, bars }).collect();
@@ -174,7 +198,7 @@ fn bar_counts(record: &Record) -> Vec<Record> {
             } else {
                 changed.first.clone_from(&list);
             }
-            if record.kind == 1 {
+            if record.is_beam() {
                 changed.fields[beam::A2] = if changed.second.is_empty() { 0 } else { 40 };
             }
             changed.count_groups();
@@ -193,6 +217,7 @@ pub fn question_edges(record: &Record) -> Vec<Record> {
     let sides = [(300, 300), (301, 300), (300, 301), (1500, 1499), (1500, 1500)];
     let mut records = match record.kind {
         1 => consistency(record),
+        4 => point_load_consistency(record),
         2 => pairs(column::B, column::H, &sides),
         _ => pairs(mesh::CROSS, mesh::APART, &[(0, 0), (0, 1), (1, 0), (1, 1)]),
     };

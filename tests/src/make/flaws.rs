@@ -10,9 +10,11 @@ use crate::model::built::Group;
 /// The questions put to a member.
 pub const QUESTIONS: [u32; 6] = [5, 6, 7, 8, 9, 10];
 
-/// Fields that no other flaw changes, out of their range.
+/// Fields that no other flaw changes, out of their range; or a, which is then above the span, too.
 fn out_of_range(kind: u32, random: &Random) -> (usize, u32) {
     match kind {
+        4 if random.one_in(2) => random.pick(&[(beam::LOAD, 12_001), (beam::LOAD, u32::MAX)]),
+        4 => out_of_range(1, random),
         1 => random.pick(&[
             (beam::B, 99),
             (beam::LEGS, 9),
@@ -35,10 +37,13 @@ fn out_of_range(kind: u32, random: &Random) -> (usize, u32) {
     }
 }
 
-/// Fields that do not fit together.
+/// Fields that do not fit together: of kind 4 a beyond the span, where that is in range.
 fn inconsistent(record: &mut Record) {
     match record.kind {
-        1 => record.fields[beam::COVER] = record.fields[beam::AS],
+        4 if record.fields[beam::SPAN] < 12_000 => {
+            record.fields[beam::LOAD] = record.fields[beam::SPAN] + 1;
+        }
+        1 | 4 => record.fields[beam::COVER] = record.fields[beam::AS],
         2 => record.fields[column::B..=column::H].copy_from_slice(&[301, 300]),
         _ => {
             record.fields[mesh::CROSS] = 1;
@@ -67,17 +72,19 @@ fn effective_area(record: &Record) -> u64 {
 pub fn flaw(record: &mut Record, question: u32, random: &Random) -> bool {
     match (question, record.kind) {
         (5, _) => record.mark = random.pick(&[0, 1_000_000, 1 << 20, u32::MAX]),
-        (6, _) => record.kind = random.pick(&[0, 4, 5, 257, 258, 1 << 31, u32::MAX]),
+        (6, _) => record.kind = random.pick(&[0, 5, 5, 6, 257, 260, 1 << 31, u32::MAX]),
         (7, kind) => {
             let (field, value) = out_of_range(kind, random);
             record.fields[field] = value;
         }
         (8, _) => inconsistent(record),
-        (9, 1) if !record.second.is_empty() && random.one_in(2) => {
+        (9, 1 | 4) if !record.second.is_empty() && random.one_in(2) => {
             too_many_bars(&mut record.second);
         }
-        (9, 1 | 2) => too_many_bars(&mut record.first),
-        (10, 1) if 2 * effective_area(record) < 5 * total(&THICK) => record.first = THICK.to_vec(),
+        (9, 1 | 2 | 4) => too_many_bars(&mut record.first),
+        (10, 1 | 4) if 2 * effective_area(record) < 5 * total(&THICK) => {
+            record.first = THICK.to_vec();
+        }
         _ => return false,
     }
     if question > 8 {

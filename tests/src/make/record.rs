@@ -29,6 +29,9 @@ pub mod place {
         pub const ENVIRONMENT: usize = 19;
         pub const STRICT: usize = 20;
         pub const COUNT: usize = 21;
+        /// a, of kind 4 only.
+        pub const LOAD: usize = 21;
+        pub const POINT_COUNT: usize = 22;
     }
     pub mod column {
         pub const B: usize = 0;
@@ -105,10 +108,19 @@ impl Record {
         Record::new(mark, 3, &numbers)
     }
 
+    /// The beam as kind 4, with a point load at this distance.
+    pub fn point_loaded(&self, distance: u64) -> Self {
+        Record { kind: 4, ..self.with(place::beam::LOAD, distance) }
+    }
+
+    pub fn is_beam(&self) -> bool {
+        matches!(self.kind, 1 | 4)
+    }
+
     /// Sets the group counts to the lists' lengths.
     pub fn count_groups(&mut self) {
         match self.kind {
-            1 => {
+            1 | 4 => {
                 self.fields[place::beam::TENSION] = self.first.len() as u32;
                 self.fields[place::beam::COMPRESSION] = self.second.len() as u32;
             }
@@ -122,7 +134,7 @@ impl Record {
     pub fn counts(&self) -> [usize; 2] {
         let count = |field: usize| self.fields[field] as usize;
         match self.kind {
-            1 => [count(place::beam::TENSION), count(place::beam::COMPRESSION)],
+            1 | 4 => [count(place::beam::TENSION), count(place::beam::COMPRESSION)],
             2 => [count(place::column::GROUPS), 0],
             _ => [0, 0],
         }
@@ -132,6 +144,7 @@ impl Record {
     pub fn field_count(&self) -> usize {
         match self.kind {
             1 => place::beam::COUNT,
+            4 => place::beam::POINT_COUNT,
             2 => place::column::COUNT,
             _ => place::mesh::COUNT,
         }
@@ -150,8 +163,8 @@ impl Record {
     /// Which list a field counts, if any: 0 for the first, 1 for the second.
     fn list_counted_by(&self, field: usize) -> Option<usize> {
         match (self.kind, field) {
-            (1, place::beam::TENSION) | (2, place::column::GROUPS) => Some(0),
-            (1, place::beam::COMPRESSION) => Some(1),
+            (1 | 4, place::beam::TENSION) | (2, place::column::GROUPS) => Some(0),
+            (1 | 4, place::beam::COMPRESSION) => Some(1),
             _ => None,
         }
     }

@@ -1,7 +1,8 @@
 //! Inputs of the report program that its crates store beside what it must print.
 
+use super::base::random_member;
 use super::vectors::members;
-use super::{encode, random_member, renumber, Random};
+use super::{encode, renumber, Random};
 use crate::model::schedule::{MOST_BYTES, MOST_MEMBERS};
 
 /// A schedule with zeros after it, `length` bytes in all.
@@ -11,7 +12,8 @@ fn padded(schedule: &[u8], length: usize) -> Vec<u8> {
     bytes
 }
 
-/// As many members as a schedule may have: those that reach every case, then random ones.
+/// As many members as a schedule may have, of the kinds 1 to 3: those that reach every case, then
+/// random ones.
 fn most_members(random: &Random) -> Vec<u8> {
     let mut records = members(random);
     while records.len() < MOST_MEMBERS as usize {

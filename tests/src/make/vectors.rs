@@ -1,21 +1,23 @@
-//! Vectors for another test program: some 300 members that reach every case, read and written, damaged schedules, refused lists,
-//! and two vectors that are wrong on purpose.
+//! Vectors for another test program: some 300 members of the kinds 1 to 3 that reach every case, and point-loaded beams that
+//! are chosen by theirs, read and written, damaged schedules, refused lists, and two vectors that are wrong on purpose.
 
 mod lists;
 
 use std::collections::{BTreeMap, BTreeSet};
 
+use super::base::{hugging_members, random_member};
 use super::edges::question_edges;
 use super::{
-    damage, encode, equalities, hugging_members, hunts, random_member, renumber, Random, Record,
+    damage, encode, equalities, hunts, points, random_point_loaded, renumber, Random, Record,
 };
-use crate::branches::{required, Case, Tally};
+use crate::branches::{point_load_cases, required, Case, Tally};
 use crate::model::report::report;
 use crate::model::schedule::Refusal;
 use crate::model::writing::write_schedule;
 
-/// Members, and how many schedules have the same refusal.
+/// Members of the kinds 1 to 3, point-loaded beams, and how many schedules have the same refusal.
 pub const MEMBERS: usize = 300;
+const POINT_LOADED: usize = 45;
 const ALIKE: usize = 8;
 
 /// The bytes that the program `vectors` reads.
@@ -41,7 +43,7 @@ fn keep(records: Vec<Record>, open: &mut BTreeSet<Case>, kept: &mut Vec<Record>)
     }
 }
 
-/// The members: first those that reach every case, then random ones.
+/// The members of the kinds 1 to 3: first those that reach every case, then random ones.
 pub fn members(random: &Random) -> Vec<Record> {
     let mut open: BTreeSet<Case> = required().into_iter().collect();
     let mut kept = Vec::new();
@@ -62,6 +64,48 @@ pub fn members(random: &Random) -> Vec<Record> {
     }
     renumber(random, &mut kept);
     kept
+}
+
+/// Keeps, one after the other, the record that reaches the most cases which are still open.
+fn keep_best(records: Vec<Record>, open: &mut BTreeSet<Case>, kept: &mut Vec<Record>) {
+    let found = records.into_iter().filter_map(|record| Some((cases(&record)?, record)));
+    let found: Vec<(Vec<Case>, Record)> = found.collect();
+    loop {
+        let reached = |cases: &[Case]| cases.iter().filter(|case| open.contains(case)).count();
+        let best = found.iter().max_by_key(|(cases, _)| reached(cases));
+        let Some((cases, record)) = best.filter(|(cases, _)| reached(cases) > 0) else {
+            return;
+        };
+        open.retain(|case| !cases.contains(case));
+        kept.push(record.clone());
+    }
+}
+
+/// Point-loaded beams: those that reach every case by which they are chosen, at the edges of what kind
+/// 4 adds and as these members with a point load; then random ones.
+fn point_loaded(members: &[Record], random: &Random) -> Vec<Record> {
+    let mut open: BTreeSet<Case> = point_load_cases().into_iter().collect();
+    let mut kept = Vec::new();
+    let beams = members.iter().filter(|record| record.is_beam());
+    let mut records = points::directed();
+    records.extend(beams.flat_map(points::both_ends));
+    keep_best(records, &mut open, &mut kept);
+    assert!(open.is_empty(), "cases not reached: {open:?}");
+    while kept.len() < POINT_LOADED {
+        let record = random_point_loaded(random);
+        if record.read().is_some() {
+            kept.push(record);
+        }
+    }
+    kept
+}
+
+/// All members, with rising marks.
+fn all_members(random: &Random) -> Vec<Record> {
+    let mut all = members(random);
+    all.extend(point_loaded(&all, random));
+    renumber(random, &mut all);
+    all
 }
 
 /// The text in the buffer, or the refusal.
@@ -111,13 +155,14 @@ fn refused(members: &[Record], random: &Random) -> Vec<Vec<u8>> {
     schedules
 }
 
-/// Each member alone, all of them, none, and refused ones.
+/// Each member alone, all of them, none, and refused ones, also for what kind 4 adds.
 fn schedules(members: &[Record], random: &Random) -> Vec<Vec<u8>> {
     let mut schedules: Vec<Vec<u8>> =
         members.iter().map(|one| encode(std::slice::from_ref(one))).collect();
     schedules.push(encode(members));
     schedules.push(vec![0]);
     schedules.extend(refused(members, random));
+    schedules.extend(points::refused_files().into_iter().map(|(file, _)| file));
     schedules
 }
 
@@ -158,7 +203,7 @@ impl Vector {
 
 /// A row of vectors and how many there are. The last two texts are wrong on purpose: whoever compares must count two unequal.
 pub fn vectors(random: &Random) -> (usize, Vec<u8>) {
-    let members = members(random);
+    let members = all_members(random);
     let schedules = schedules(&members, random).into_iter().map(Vector::of_schedule);
     let mut vectors: Vec<Vector> = schedules.collect();
     let first_list = vectors.len();

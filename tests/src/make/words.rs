@@ -12,11 +12,14 @@ pub const GROUPS: usize = 4;
 /// A member's first words.
 pub const MARK: usize = 0;
 pub const KIND: usize = 1;
+/// The words of l0 and of a in a point-loaded beam; in kind 1 the second has no effect.
+pub const SPAN: usize = 2 + 31;
+pub const LOAD: usize = 2 + 37;
 
 /// The words that count a kind's lists; eight words for groups follow each.
 pub fn counts(kind: u32) -> &'static [usize] {
     match kind {
-        1 => &[2 + 8, 2 + 17],
+        1 | 4 => &[2 + 8, 2 + 17],
         2 => &[2 + 4],
         _ => &[],
     }
@@ -25,7 +28,8 @@ pub fn counts(kind: u32) -> &'static [usize] {
 /// A kind's words up to its last field.
 pub fn end(kind: u32) -> usize {
     match kind {
-        1 => 2 + 37,
+        1 => LOAD,
+        4 => LOAD + 1,
         2 => 2 + 17,
         3 => 2 + 11,
         _ => 2,

@@ -8,8 +8,10 @@ use crate::model::held::WORDS;
 
 /// The count of 500 members.
 const LONGEST_COUNT: usize = 2;
-/// No member has more bytes; a beam has as many, where each field is as long as it may be.
-pub const LONGEST_MEMBER: usize = 59;
+/// No beam of kind 1 has more bytes; one has as many, where each field is as long as it may be.
+pub const LONGEST_BEAM: usize = 59;
+/// No member has more bytes: a point-loaded beam has two for a.
+pub const LONGEST_MEMBER: usize = 61;
 
 /// What the library promises to be enough for a schedule of this many members.
 pub fn promised(members: usize) -> usize {
@@ -25,7 +27,13 @@ pub fn longest_beam(mark: u32) -> Record {
     Record::beam(mark, head, &groups, &groups, tail)
 }
 
-/// Beams with each number of tension and of compression groups, and columns with each of theirs.
+/// The same beam, point-loaded.
+pub fn longest_member(mark: u32) -> Record {
+    longest_beam(mark).point_loaded(12_000)
+}
+
+/// Beams of both kinds with each number of tension and of compression groups, and columns with each
+/// of theirs.
 pub fn group_counts() -> Vec<Record> {
     let groups = [(20, 3), (12, 2), (25, 1), (16, 4)];
     let others = [(14, 2), (18, 1), (10, 5), (22, 3)];
@@ -36,7 +44,8 @@ pub fn group_counts() -> Vec<Record> {
             let distance = if compression == 0 { 0 } else { 35 };
             let head = [250, 600, 250, 0, 40, distance, 30, 1];
             let (first, second) = (&groups[..tension], &others[..compression]);
-            records.push(Record::beam(1, head, first, second, tail));
+            let beam = Record::beam(1, head, first, second, tail);
+            records.extend([beam.point_loaded(2000), beam]);
         }
         let head = [400, 400, 30, 1];
         records.push(Record::column(1, head, &groups[..tension], [8, 250, 4000, 2_500_000]));
@@ -55,6 +64,14 @@ pub fn number(records: &mut [Record]) {
 /// Numbers at which the bytes become more.
 const LENGTHS: [u32; 10] =
     [0, 127, 128, 16_383, 16_384, 2_097_151, 2_097_152, 268_435_455, 268_435_456, 1_000_000_000];
+
+/// Point-loaded beams whose a has each number of bytes.
+pub fn load_lengths() -> Vec<Record> {
+    let mut records: Vec<Record> =
+        [0, 127, 128, 12_000].map(|distance| longest_beam(1).point_loaded(distance)).to_vec();
+    number(&mut records);
+    records
+}
 
 /// Columns whose marks and N have each number of bytes.
 pub fn number_lengths() -> Vec<Vec<Record>> {

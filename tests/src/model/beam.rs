@@ -1,4 +1,4 @@
-//! Kind 1: simple rectangular or inverted-T beams.
+//! Kinds 1 and 4: simple rectangular or inverted-T beams, under uniform load or a point load.
 
 use super::member::{Bars, No, Numbers};
 use super::outcome::{Check, Outcome};
@@ -34,6 +34,8 @@ pub struct Beam {
     pub shear: u64,
     pub environment: u64,
     pub strict: bool,
+    /// a, the distance from a point load to the support: of kind 4 only (document 02, wish 3).
+    pub load_distance: Option<u64>,
 }
 
 /// Steel stress and strain factor of the crack check, which the deflection takes up.
@@ -45,7 +47,7 @@ pub struct Cracked {
 }
 
 impl Beam {
-    pub fn read(numbers: &mut impl Numbers) -> Result<Self, No> {
+    pub fn read(numbers: &mut impl Numbers, point_loaded: bool) -> Result<Self, No> {
         let beam = Beam {
             b: numbers.within(100, 1000)?,
             h: numbers.within(160, 2000)?,
@@ -71,6 +73,7 @@ impl Beam {
             shear: numbers.within(0, 100_000_000)?,
             environment: numbers.within(1, 3)?,
             strict: numbers.flag()?,
+            load_distance: if point_loaded { Some(numbers.within(0, 12_000)?) } else { None },
         };
         if !beam.is_consistent() {
             Err(8)
@@ -95,6 +98,15 @@ impl Beam {
             && 2 * (self.cover_tension + self.cover_compression) <= self.h
             && self.cover < self.cover_tension
             && self.span <= 30 * self.h0()
+            && self.load_distance.is_none_or(|distance| distance <= self.span)
+    }
+
+    pub fn kind(&self) -> u64 {
+        if self.load_distance.is_some() {
+            4
+        } else {
+            1
+        }
     }
 
     pub fn h0(&self) -> u64 {
@@ -164,15 +176,37 @@ impl Beam {
     /// 4.3.3: shear capacity, N.
     pub fn shear_capacity(&self) -> u64 {
         let links = self.link_steel.fyv * self.link_area() * self.h0() / (10 * self.spacing);
-        self.concrete_shear() / 1000 + links
+        self.concrete_part() + links
     }
 
-    /// 7·ft·b·h0, the concrete's share in thousandths of N.
+    /// The concrete part of 4.3.3, N: 0.7·ft·b·h0, or 1.75·ft·b·h0/(λ + 1) under a point load.
+    pub fn concrete_part(&self) -> u64 {
+        let Some(distance) = self.load_distance else {
+            return self.concrete_shear() / 1000;
+        };
+        let (upper, lower) = self.shear_ratio(distance);
+        175 * self.concrete.ft * self.b * self.h0() * lower / (10_000 * (upper + lower))
+    }
+
+    /// λ = a/h0 held to 1.5-3, as its upper and lower number.
+    pub fn shear_ratio(&self, distance: u64) -> (u64, u64) {
+        let h0 = self.h0();
+        if 2 * distance < 3 * h0 {
+            (3, 2)
+        } else if distance > 3 * h0 {
+            (3, 1)
+        } else {
+            (distance, h0)
+        }
+    }
+
+    /// 7·ft·b·h0, in thousandths of N: under uniform load the concrete part of 4.3.3, and for every
+    /// beam what table 5.5.6 turns on.
     pub fn concrete_shear(&self) -> u64 {
         7 * self.concrete.ft * self.b * self.h0()
     }
 
-    /// Whether V exceeds the concrete's share.
+    /// Whether V exceeds 0.7·ft·b·h0.
     pub fn needs_links(&self) -> bool {
         1000 * self.shear > self.concrete_shear()
     }
@@ -287,6 +321,11 @@ impl Beam {
         if capacity < self.shear {
             return outcome.fails(Check::Shear);
         }
+        self.check_links(outcome)
+    }
+
+    /// The checks after 4.3.3.
+    pub fn check_links(&self, outcome: Outcome) -> Outcome {
         if self.spacing > self.spacing_limit() {
             return outcome.fails(Check::LinkSpacing);
         }

@@ -10,7 +10,7 @@ pub struct Group {
     pub bars: u32,
 }
 
-/// Places for a member's fields; a kind has at most 21.
+/// Places for a member's fields; a kind has at most 22.
 pub const FIELDS: usize = 24;
 
 /// Mark, kind, and the kind's fields in document 01's order without the groups.

@@ -90,7 +90,7 @@ impl Bars {
 /// The most bars in a group.
 pub const MOST_BARS: u64 = 20;
 
-/// A member's fields, by kind.
+/// A member's fields; kinds 1 and 4 are beams.
 #[derive(Clone, Copy, Debug, PartialEq, Eq)]
 pub enum Body {
     Beam(Beam),
@@ -111,13 +111,22 @@ impl Member {
         if mark > 999_999 || mark <= u64::from(before) {
             return Err(5);
         }
-        let body = match numbers.number()? {
-            1 => Body::Beam(Beam::read(numbers)?),
+        let kind = numbers.number()?;
+        let body = match kind {
+            1 | 4 => Body::Beam(Beam::read(numbers, kind == 4)?),
             2 => Body::Column(Column::read(numbers)?),
             3 => Body::Mesh(Mesh::read(numbers)?),
             _ => return Err(6),
         };
         Ok(Member { mark: mark as u32, body })
+    }
+
+    pub fn kind(&self) -> u64 {
+        match &self.body {
+            Body::Beam(beam) => beam.kind(),
+            Body::Column(_) => 2,
+            Body::Mesh(_) => 3,
+        }
     }
 
     /// Runs the checks of the member's kind.

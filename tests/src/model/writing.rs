@@ -48,6 +48,7 @@ impl Writer<'_> {
         self.fields(&[beam.link_steel.code, beam.cover, beam.span]);
         self.fields(&[beam.moment, beam.moment_quasi, beam.shear]);
         self.fields(&[beam.environment, u64::from(beam.strict)]);
+        self.fields(beam.load_distance.as_slice());
     }
 
     fn column(&mut self, column: &Column, bars: &[u32]) {
@@ -64,20 +65,11 @@ impl Writer<'_> {
     }
 
     fn member(&mut self, held: &Held) {
-        let mark = u64::from(held.member.mark);
+        self.fields(&[u64::from(held.member.mark), held.member.kind()]);
         match &held.member.body {
-            Body::Beam(beam) => {
-                self.fields(&[mark, 1]);
-                self.beam(beam, held.lists);
-            }
-            Body::Column(column) => {
-                self.fields(&[mark, 2]);
-                self.column(column, held.lists[0]);
-            }
-            Body::Mesh(mesh) => {
-                self.fields(&[mark, 3]);
-                self.mesh(mesh);
-            }
+            Body::Beam(beam) => self.beam(beam, held.lists),
+            Body::Column(column) => self.column(column, held.lists[0]),
+            Body::Mesh(mesh) => self.mesh(mesh),
         }
     }
 

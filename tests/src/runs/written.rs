@@ -33,13 +33,16 @@ fn records<C: Checker>(
 /// members as there may be and a few less.
 fn plain_lists<C: Checker>(comparison: &mut Comparison<C>, random: &Random) -> Outcome {
     records(comparison, random, &written::group_counts())?;
+    records(comparison, random, &written::load_lengths())?;
     for list in written::number_lengths().into_iter().chain(written::mark_lists(random)) {
         records(comparison, random, &list)?;
     }
     for count in [1, 126, 127, 128, 129, 499, 500] {
         records(comparison, random, &accepted_list(random, count))?;
-        let longest = (1_000_000 - count as u32..1_000_000).map(written::longest_beam);
-        records(comparison, random, &longest.collect::<Vec<Record>>())?;
+        for longest in [written::longest_beam, written::longest_member] {
+            let longest = (1_000_000 - count as u32..1_000_000).map(longest);
+            records(comparison, random, &longest.collect::<Vec<Record>>())?;
+        }
     }
     Ok(())
 }

@@ -7,13 +7,15 @@ use Rattle.consistency.proofs.beam_consistent.Tie as tie
 returns : tie.Need-returns
 unfolding beamConsistent
 returns c =
-    let k = c .before .before in
-    rw (c .and2 .ensures, c .before .and .ensures, k .depth-fits .ensures, k .before .compression-fits .ensures, k .before .before .flange-fits .ensures)
+    let k = c .before .before .before in
+    rw (c .and3 .ensures, c .before .and2 .ensures, c .before .before .and .ensures, k .load-fits .ensures, k .before .depth-fits .ensures, k .before .before .compression-fits .ensures, k .before .before .before .flange-fits .ensures)
 
 pub beam-consistent-spec : {M : Type 1} → statement M
 beam-consistent-spec =
     tie.close
     (tie.spec
+    (λ c κs. search needs)
+    (λ c κs. search needs)
     (λ c κs. search needs)
     (λ c κs. search needs)
     (λ c κs. search needs)

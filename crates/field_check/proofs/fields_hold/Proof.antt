@@ -6,15 +6,15 @@ use Rattle.field_check.proofs.fields_hold.Tie as tie
 
 returns : tie.Need-returns
 unfolding fieldsOf
-returns c = rw (c .before .enum-told .given .1) (c .beam-holds .ensures)
+returns c = rw (c .before .before .kind .given .1) (c .beam-holds .ensures)
 
 returns-2 : tie.Need-returns-2
 unfolding fieldsOf
-returns-2 c = rw (c .before .enum-told2 .given .1) (c .column-holds .ensures)
+returns-2 c = rw (c .before .enum-told .given .1) (c .column-holds .ensures)
 
 returns-3 : tie.Need-returns-3
 unfolding fieldsOf
-returns-3 c = rw (c .before .enum-told3 .given .1) (c .mesh-holds .ensures)
+returns-3 c = rw (c .before .enum-told2 .given .1) (c .mesh-holds .ensures)
 
 pub fields-hold-spec : {M : Type 1} → statement M
 fields-hold-spec =

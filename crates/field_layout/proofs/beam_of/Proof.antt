@@ -9,7 +9,7 @@ use Rattle.field_layout.proofs.beam_of.Tie as tie
 returns : tie.Need-returns
 unfolding beamAt
 returns c =
-    let middle = c .before .before .before .before .before .before .before .before .before in
+    let middle = c .before .before .before .before .before .before .before .before .before .before in
     let start = middle .before .before .before .before .before .before .before .before .before in
     beam-made
     (start .before .before .before .before .before .before .before .before .length-at .ensures)
@@ -28,13 +28,14 @@ returns c =
     refl
     (middle .before .length-at7 .ensures)
     refl
-    (c .before .before .before .before .before .before .before .before .length-at8 .ensures)
-    (c .before .before .before .before .before .before .before .length-at9 .ensures)
-    (c .before .before .before .before .before .widen .ensures)
-    (c .before .before .before .widen2 .ensures)
-    (c .before .before .force-at .ensures)
+    (c .before .before .before .before .before .before .before .before .before .length-at8 .ensures)
+    (c .before .before .before .before .before .before .before .before .length-at9 .ensures)
+    (c .before .before .before .before .before .before .widen .ensures)
+    (c .before .before .before .before .widen2 .ensures)
+    (c .before .before .before .force-at .ensures)
     refl
     refl
+    (c .load-at .ensures)
 
 pub beam-of-spec : {M : Type 1} → statement M
 beam-of-spec =
@@ -67,4 +68,5 @@ beam-of-spec =
     (λ c κs. search needs)
     (λ c. search needs)
     (λ c. search needs)
+    (λ c κs. search needs)
     returns)

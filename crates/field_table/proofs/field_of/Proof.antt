@@ -1,12 +1,14 @@
 -- `field_table::field_of` meets its contract.
+use mathlib.Core.Path.{_∙_}
 use borrow.Author.Needs.{needs}
 use Rattle.field_table.specs.Fields.{fieldsOf}
+use Rattle.field_table.proofs.Tables.{beam-within, beam-field-same}
 use Rattle.field_table.proofs.field_of.Statement.{statement}
 use Rattle.field_table.proofs.field_of.Tie as tie
 
 beam-field-requires : tie.Need-beam-field-requires
 unfolding fieldsOf
-beam-field-requires c κs = rw (c .enum-told .given .1) at (c .before .before .pre)
+beam-field-requires c κs = beam-within (c .enum-told .given .0 .0) _ (rw (c .enum-told .given .1) at (c .before .before .pre))
 
 column-field-requires : tie.Need-column-field-requires
 unfolding fieldsOf
@@ -18,7 +20,9 @@ mesh-field-requires c κs = rw (c .enum-told3 .given .1) at (c .before .before .
 
 returns : tie.Need-returns
 unfolding fieldsOf
-returns c = rw (c .before .enum-told .given .1) (c .beam-field .ensures)
+returns c =
+    let e = c .before .enum-told .given .1 in
+    rw e (c .beam-field .ensures ∙ beam-field-same (c .before .enum-told .given .0 .0) _ (rw e at (c .before .before .before .pre)))
 
 returns-2 : tie.Need-returns-2
 unfolding fieldsOf

@@ -9,7 +9,7 @@ returns : tie.Need-returns
 returns c =
     let x = c .before in
     let r = x .before .before in
-    sym (beam-rows _ _ _ ∙ then-refused _ _ _ (r .take-row .ensures) _ _ (x .q .given .1))
+    sym (beam-rows _ (r .before .before .before .args .pointLoad) _ _ ∙ then-refused _ _ _ (r .take-row .ensures) _ _ (x .q .given .1))
 
 returns-2 : tie.Need-returns-2
 returns-2 c =
@@ -17,7 +17,7 @@ returns-2 c =
     let l = x .before .before in
     let a = l .before .before .before in
     let r = a .before .before in
-    sym (beam-rows _ _ _ ∙ then-on _ _ _ (r .take-row .ensures) _ _ (a .tension .given .1) ∙ then-refused _ _ _ (l .take-list .ensures) _ _ (x .q2 .given .1))
+    sym (beam-rows _ (r .before .before .before .args .pointLoad) _ _ ∙ then-on _ _ _ (r .take-row .ensures) _ _ (a .tension .given .1) ∙ then-refused _ _ _ (l .take-list .ensures) _ _ (x .q2 .given .1))
 
 returns-3 : tie.Need-returns-3
 returns-3 c =
@@ -28,7 +28,7 @@ returns-3 c =
     let a = l .before .before .before in
     let r = a .before .before in
     sym
-    (beam-rows _ _ _ ∙ then-on _ _ _ (r .take-row .ensures) _ _ (a .tension .given .1) ∙ then-on _ _ _ (l .take-list .ensures) _ _ (b .count .given .1)
+    (beam-rows _ (r .before .before .before .args .pointLoad) _ _ ∙ then-on _ _ _ (r .take-row .ensures) _ _ (a .tension .given .1) ∙ then-on _ _ _ (l .take-list .ensures) _ _ (b .count .given .1)
     ∙ then-refused _ _ _ (n .take-row2 .ensures) _ _ (x .q3 .given .1))
 
 returns-4 : tie.Need-returns-4
@@ -42,7 +42,7 @@ returns-4 c =
     let a = l .before .before .before in
     let r = a .before .before in
     sym
-    (beam-rows _ _ _ ∙ then-on _ _ _ (r .take-row .ensures) _ _ (a .tension .given .1) ∙ then-on _ _ _ (l .take-list .ensures) _ _ (b .count .given .1)
+    (beam-rows _ (r .before .before .before .args .pointLoad) _ _ ∙ then-on _ _ _ (r .take-row .ensures) _ _ (a .tension .given .1) ∙ then-on _ _ _ (l .take-list .ensures) _ _ (b .count .given .1)
     ∙ then-on _ _ _ (n .take-row2 .ensures) _ _ (d .compression .given .1) ∙ then-refused _ _ _ (m .take-list2 .ensures) _ _ (x .q4 .given .1))
 
 returns-5 : tie.Need-returns-5
@@ -55,9 +55,9 @@ returns-5 c =
     let l = b .before .before in
     let a = l .before .before .before in
     let r = a .before .before in
-    c .take-row3 .ensures
+    c .take-after-lists .ensures
     ∙ sym
-    (beam-rows _ _ _ ∙ then-on _ _ _ (r .take-row .ensures) _ _ (a .tension .given .1) ∙ then-on _ _ _ (l .take-list .ensures) _ _ (b .count .given .1)
+    (beam-rows _ (r .before .before .before .args .pointLoad) _ _ ∙ then-on _ _ _ (r .take-row .ensures) _ _ (a .tension .given .1) ∙ then-on _ _ _ (l .take-list .ensures) _ _ (b .count .given .1)
     ∙ then-on _ _ _ (n .take-row2 .ensures) _ _ (d .compression .given .1) ∙ then-on _ _ _ (m .take-list2 .ensures) _ _ (e .links .given .1))
 
 pub take-beam-spec : {M : Type 1} → statement M

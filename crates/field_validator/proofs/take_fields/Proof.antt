@@ -8,15 +8,15 @@ use Rattle.field_validator.proofs.take_fields.Tie as tie
 
 returns : tie.Need-returns
 unfolding fieldsOf
-returns c = rw (c .before .before .enum-told .given .1) (c .take-beam .ensures)
+returns c = rw (c .before .before .before .kind .given .1) (c .take-beam .ensures)
 
 returns-2 : tie.Need-returns-2
 unfolding fieldsOf
-returns-2 c = rw (c .before .before .enum-told2 .given .1) (c .take-column .ensures)
+returns-2 c = rw (c .before .before .enum-told .given .1) (c .take-column .ensures)
 
 returns-3 : tie.Need-returns-3
 unfolding fieldsOf
-returns-3 c = rw (c .before .before .enum-told3 .given .1) (c .take-row .ensures ∙ sym (mesh-rows _ _ _))
+returns-3 c = rw (c .before .before .enum-told2 .given .1) (c .take-row .ensures ∙ sym (mesh-rows _ _ _))
 
 pub take-fields-spec : {M : Type 1} → statement M
 take-fields-spec =

@@ -10,15 +10,15 @@ use Rattle.verdict.proofs.beam_verdict.Statement.{statement}
 use Rattle.verdict.proofs.beam_verdict.Tie as tie
 
 beam-consistent-requires : tie.Need-beam-consistent-requires
-beam-consistent-requires c κs = beam-in-range-of _ (c .beam-of .ensures) (c .before .pre)
+beam-consistent-requires c κs = beam-in-range-of _ _ (c .beam-of .ensures) (c .before .pre)
 
 beam-bars-requires : tie.Need-beam-bars-requires
-beam-bars-requires c κs = let s = c .before .before in beam-in-range-of _ (s .beam-of .ensures) (s .before .pre)
+beam-bars-requires c κs = let s = c .before .before in beam-in-range-of _ _ (s .beam-of .ensures) (s .before .pre)
 
 beam-ratio-requires : tie.Need-beam-ratio-requires
 beam-ratio-requires c κs =
     let s = c .before .before .before .before in
-    (beam-in-range-of _ (s .beam-of .ensures) (s .before .pre), sym (c .before .beam-bars .ensures) ∙ c .if2 .taken)
+    (beam-in-range-of _ _ (s .beam-of .ensures) (s .before .pre), sym (c .before .beam-bars .ensures) ∙ c .if2 .taken)
 
 returns : tie.Need-returns
 unfolding beamVerdict

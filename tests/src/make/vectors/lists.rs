@@ -3,7 +3,7 @@
 use super::written;
 use crate::make::flaws::{flawed, QUESTIONS};
 use crate::make::words::{of_record, of_records};
-use crate::make::written::{group_counts, left_over, mark_lists, number_lengths};
+use crate::make::written::{group_counts, left_over, load_lengths, mark_lists, number_lengths};
 use crate::make::{Random, Record};
 use crate::model::held::WORDS;
 
@@ -46,13 +46,13 @@ fn refused_by(question: u32, kind: u32, members: &[Record], random: &Random) -> 
 fn refused(members: &[Record], random: &Random) -> Vec<Vec<u32>> {
     let mut lists = Vec::new();
     for question in QUESTIONS {
-        let kinds = match question {
-            9 => 1..=2,
-            10 => 1..=1,
-            _ => 1..=3,
+        let kinds: &[u32] = match question {
+            9 => &[1, 2, 4],
+            10 => &[1, 4],
+            _ => &[1, 2, 3, 4],
         };
         for kind in kinds {
-            let list = refused_by(question, kind, members, random);
+            let list = refused_by(question, *kind, members, random);
             lists.push(list.expect("a member of this kind that can be refused so"));
         }
     }
@@ -66,6 +66,7 @@ pub fn lists(members: &[Record], random: &Random) -> Vec<Vec<u8>> {
     lists.push(of_records(members, random));
     lists.push(vec![]);
     lists.push(of_records(&group_counts(), random));
+    lists.push(of_records(&load_lengths(), random));
     for records in number_lengths().iter().chain(&mark_lists(random)) {
         lists.push(of_records(records, random));
     }
