@@ -5,6 +5,7 @@ mod written;
 
 use std::path::Path;
 
+use crate::make::beams::every_cover;
 use crate::make::{encode, vectors, Record};
 use crate::model::built::{totals, Group};
 use crate::model::member::{Body, Member};
@@ -167,6 +168,19 @@ fn slenderness() {
     }
     record.fields[7] = 20_001;
     assert_eq!(line(&record), "2 4.2.4s - - - -");
+}
+
+/// A cover below 20 mm has the width of 20 mm, one above 65 mm that of 65 mm (4.4.2).
+#[test]
+fn held_cover() {
+    let width = |record: &Record| member(record).check().figures()[2];
+    let widths: Vec<u64> = every_cover().iter().map(width).collect();
+    // 19·1347914·K/(2·10^9) rounded up, where K is 190 times the cover held, and 12223
+    let tabled =
+        [(15, 206), (19, 206), (20, 206), (21, 208), (64, 313), (65, 315), (66, 315), (199, 315)];
+    for (cover, width) in tabled {
+        assert_eq!(widths[cover - 15], width, "{cover}");
+    }
 }
 
 #[test]

@@ -31,7 +31,8 @@ pub fn all<C: Checker>(
     built_members(comparison, random, 6000 * multiplier)?;
     group_lists(comparison, random, 6000 * multiplier)?;
     written::edge_lists(comparison, random, multiplier)?;
-    written::lists(comparison, random, 6000 * multiplier)
+    written::lists(comparison, random, 6000 * multiplier)?;
+    every_cover(comparison, random)
 }
 
 /// A short run that still reaches every case.
@@ -45,7 +46,8 @@ pub fn quick<C: Checker>(comparison: &mut Comparison<C>, random: &Random) -> Out
     every_slenderness(comparison, random)?;
     built_members(comparison, random, 100)?;
     group_lists(comparison, random, 100)?;
-    written::lists(comparison, random, 100)
+    written::lists(comparison, random, 100)?;
+    every_cover(comparison, random)
 }
 
 /// Schedules of few members, accepted or not.
@@ -145,6 +147,15 @@ fn every_slenderness<C: Checker>(comparison: &mut Comparison<C>, random: &Random
         comparison.records(chunk)?;
     }
     Ok(())
+}
+
+/// One beam at each cover: below 20 mm, above 65, and all between, where it moves the width (4.4.2; document 02, wish 4).
+fn every_cover<C: Checker>(comparison: &mut Comparison<C>, random: &Random) -> Outcome {
+    let records = beams::every_cover();
+    for record in &records {
+        comparison.built(record)?;
+    }
+    together(comparison, random, records)
 }
 
 /// The first accepted member that is made and wanted.

@@ -6,7 +6,7 @@ ghost use Rattle.section.specs.Section.{b, c, G, W, S};
 ghost use Rattle.section.specs.Bounded.{Bounded};
 ghost use Rattle.cracking.specs.Bounds.{stressMost, spacingMost};
 ghost use Rattle.cracking.specs.Steps.{stressHolds, steelStress, stiffening, meanStress, crackSpacing, widthOf, σ, q, crackWidth, widthLimit};
-use quantity::clamped;
+use quantity::branchless_clamped;
 use quantity::div_down;
 use quantity::div_up;
 use quantity::larger;
@@ -76,11 +76,11 @@ pub fn mean_stress(x: Section, stress: u64) -> u64
     )
 }
 
-fn crack_spacing_of(c: u64, e: u64, w: u64, d: u64, s: u64) -> u64
+fn crack_spacing_of(c: u32, e: u64, w: u64, d: u64, s: u64) -> u64
     requires { ⌜ (e ≤ 50 * d) × (w ≤ 100 * s) × (w ≤ 10000000) × (1 ≤ d) × (d ≤ 2000) × (1 ≤ s) × (s ≤ 800000) ⌝ }
     ensures { λ r. ⌜ r ≡ crackSpacing c e w d s ⌝ }
 {
-    190 * clamped(20, 65, c) + div_up(40 * e * w, d * s)
+    190 * (branchless_clamped(20, 65, c) as u64) + div_up(40 * e * w, d * s)
 }
 
 fn width_of(mean: u64, spacing: u64) -> u64
@@ -95,7 +95,7 @@ pub fn crack_width(x: Section, mean: u64) -> u64
     requires { ⌜ (Bounded x) × (G x ≤ 50 * S x) × (mean ≡ q x) × (mean ≤ stressMost) ⌝ }
     ensures { λ r. ⌜ r ≡ crackWidth x ⌝ }
 {
-    let cover = x.c.in_millimetres();
+    let cover = x.c.in_millimetres() as u32;
     width_of(
         mean,
         crack_spacing_of(

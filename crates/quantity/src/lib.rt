@@ -56,6 +56,34 @@ pub fn clamped(lo: u64, hi: u64, x: u64) -> u64
     smaller(hi, larger(lo, x))
 }
 
+// Saturating subtraction without a branch. 2^32 + a - b reaches 2^32 exactly where a is at least b: its quotient by 2^32 is then
+// 1 and its remainder a - b, and else the quotient is 0.
+fn branchless_saturating_sub(a: u32, b: u32) -> u32
+    ensures { λ r. ⌜ r ≡ a - b ⌝ }
+{
+    let sum = 4294967296 + a as u64 - b as u64;
+    (sum / 4294967296 * (sum % 4294967296)) as u32
+}
+
+fn branchless_smaller(a: u32, b: u32) -> u32
+    ensures { λ r. ⌜ r ≡ min a b ⌝ }
+{
+    a - branchless_saturating_sub(a, b)
+}
+
+fn branchless_larger(a: u32, b: u32) -> u32
+    ensures { λ r. ⌜ r ≡ max a b ⌝ }
+{
+    a + branchless_saturating_sub(b, a)
+}
+
+// x held to lo .. hi by arithmetic alone (document 02's sums), for any 32-bit number.
+pub fn branchless_clamped(lo: u32, hi: u32, x: u32) -> u32
+    ensures { λ r. ⌜ r ≡ clamp lo hi x ⌝ }
+{
+    branchless_smaller(hi, branchless_larger(lo, x))
+}
+
 // `and`, `or` and `widen` are operators as functions: a proof cites their contracts.
 pub fn and(a: bool, b: bool) -> bool
     ensures { λ r. ⌜ r ≡ (a && b) ⌝ }

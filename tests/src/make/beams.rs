@@ -141,6 +141,14 @@ pub fn random_beam(random: &Random) -> Record {
     record
 }
 
+/// A beam at each cover, up to 199 mm: it is below as, which is at most 200.
+pub fn every_cover() -> Vec<Record> {
+    let head = [300, 800, 300, 0, 200, 0, 30, 1];
+    let tail = [8, 2, 200, 1, 15, 6000, 250_000, 200_000, 100_000, 1, 0];
+    let beam = Record::beam(1, head, &[(25, 4)], &[], tail);
+    (15..200).map(|cover| beam.with(COVER, cover)).collect()
+}
+
 pub fn as_beam(record: &Record) -> Option<Beam> {
     match record.read() {
         Some(Member { body: Body::Beam(beam), .. }) => Some(beam),

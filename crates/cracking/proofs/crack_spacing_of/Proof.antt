@@ -25,9 +25,9 @@ div-up-requires c κs = mul-pos (omega arith) (omega arith)
 
 value : (c : tie.After-div-up) →
     let a = c .before .before .args in
-    190 * c .before .clamped .result + c .div-up .result ≡ crackSpacing (a .c) (a .e) (a .w) (a .d) (a .s)
+    190 * c .before .branchless-clamped .result + c .div-up .result ≡ crackSpacing (a .c) (a .e) (a .w) (a .d) (a .s)
 unfolding crackSpacing
-value c = rw (c .before .clamped .ensures, c .div-up .ensures)
+value c = rw (c .before .branchless-clamped .ensures, c .div-up .ensures)
 
 add-result : tie.Need-add-result
 add-result c =
@@ -43,6 +43,7 @@ crack-spacing-of-spec =
     tie.close
     (tie.spec
     (λ c κs. search needs)
+    (λ c. search needs)
     mul-result
     (λ c. search needs)
     mul-div-up-2

@@ -8,6 +8,10 @@ use borrow.Author.Needs.{needs}
 use Rattle.cracking.proofs.crack_width.Statement.{statement}
 use Rattle.cracking.proofs.crack_width.Tie as tie
 
+-- a cover is at most 200, so 32 bits hold it
+cast-cover : tie.Need-cast-cover
+cast-cover c = rw (c .in-millimetres .ensures) (omega (arith, c .before .pre .0 .c-most))
+
 width-of-requires : tie.Need-width-of-requires
 width-of-requires c κs =
     let k = c .before .before in
@@ -24,4 +28,4 @@ returns c =
 
 pub crack-width-spec : {M : Type 1} → statement M
 crack-width-spec =
-    tie.close (tie.spec (λ c κs. search needs) (λ c κs. search needs) (λ c κs. search needs) width-of-requires returns)
+    tie.close (tie.spec (λ c κs. search needs) cast-cover (λ c κs. search needs) (λ c κs. search needs) width-of-requires returns)
