@@ -153,6 +153,21 @@ static void show_point_load(uint8_t *out, size_t out_length) {
     print(koxaltes_write_records(&r, 1, file, sizeof file), file);
 }
 
+/* Mq may be as large as M. */
+static void show_moments(uint8_t *out, size_t out_length) {
+    static uint8_t file[KOXALTES_LONGEST_FILE];
+    koxaltes_member m = beam();
+    m.fields[KOXALTES_BEAM_M] = m.fields[KOXALTES_BEAM_MQ];
+    print(koxaltes_member_report(m, tension, 1, none, 0, out, out_length), out);
+    /* one more: KOXALTES_REFUSED_SERVICE_MOMENT */
+    m.fields[KOXALTES_BEAM_MQ] += 1;
+    print(koxaltes_member_report(m, tension, 1, none, 0, out, out_length), out);
+    koxaltes_record r = records[0];
+    r.fields.beam.m = records[0].fields.beam.mq;
+    r.fields.beam.mq = records[0].fields.beam.m;
+    print(koxaltes_write_records(&r, 1, file, sizeof file), file);
+}
+
 int main(void) {
     /* one byte more than a schedule may have, so that a longer one is refused and not cut */
     static uint8_t schedule[KOXALTES_LONGEST_SCHEDULE + 1];
@@ -162,5 +177,6 @@ int main(void) {
     print(koxaltes_report(schedule, length, out, sizeof out), out);
     show_records(schedule, length, out, sizeof out);
     show_point_load(out, sizeof out);
+    show_moments(out, sizeof out);
     return 0;
 }

@@ -25,9 +25,9 @@
  * A program meets an added question or word as a number or word that it does not know, and must take it for a refusal or for
  * a failed check. An added kind is accepted where it was refused as unknown, and a limit may grow with it. The archive does
  * not hold its version: use the header and the archive of one checkout. */
-#define KOXALTES_VERSION "0.3.0"
+#define KOXALTES_VERSION "0.4.0"
 #define KOXALTES_VERSION_MAJOR 0
-#define KOXALTES_VERSION_MINOR 3
+#define KOXALTES_VERSION_MINOR 4
 #define KOXALTES_VERSION_PATCH 0
 
 #ifdef __cplusplus
@@ -50,7 +50,8 @@ enum {
     KOXALTES_REFUSED_RATIO = 10,       /* more than 4 percent of tension steel in a beam */
     KOXALTES_REFUSED_TRAILING = 11,    /* bytes after the last member */
     KOXALTES_REFUSED_BUFFER = 12,      /* the text is longer than `out` */
-    KOXALTES_REFUSED_FILE = 13         /* the written file is longer than `out` */
+    KOXALTES_REFUSED_FILE = 13,        /* the written file is longer than `out` */
+    KOXALTES_REFUSED_SERVICE_MOMENT = 14 /* Mq above M in a beam */
 };
 
 /* Limits. A schedule that is read may have KOXALTES_LONGEST_SCHEDULE bytes; none that is written is longer than
@@ -278,7 +279,8 @@ koxaltes_bar_totals_answer koxaltes_bar_totals(const koxaltes_group *groups, siz
 
 /* The file of a held schedule into `out`. `words` are records one after the other; words past the last whole record are not
  * read. KOXALTES_REFUSED_COUNT where there are more than 500; then each record's questions, from KOXALTES_REFUSED_MARK to
- * KOXALTES_REFUSED_RATIO, the first no with its place from 1; KOXALTES_REFUSED_FILE last. No records give the file 00.
+ * KOXALTES_REFUSED_RATIO and then KOXALTES_REFUSED_SERVICE_MOMENT, the first no with its place from 1; KOXALTES_REFUSED_FILE
+ * last. No records give the file 00.
  * The file is an accepted schedule with these members, and no other file has them. */
 koxaltes_answer koxaltes_write_schedule(const uint32_t *words, size_t word_count, uint8_t *out, size_t out_length);
 

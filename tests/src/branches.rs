@@ -1,5 +1,6 @@
 //! Which cases of document 01 the compared members reached, and of what the requests add.
 
+mod moments;
 mod points;
 mod written;
 
@@ -13,11 +14,22 @@ use crate::model::member::{Body, Member};
 use crate::model::mesh::{Mesh, SCALE};
 use crate::model::outcome::{Check, Outcome};
 
-pub use points::{point_load_cases, required_of_point_loads, Entry};
+pub use moments::required_of_moments;
+pub use points::{point_load_cases, required_of_point_loads};
 pub use written::required_of_writer;
 
 /// A case: what it is about, and which of its variants.
 pub type Case = (&'static str, u64);
+
+/// How a member is given: in a file, built, as words.
+#[derive(Clone, Copy, PartialEq)]
+pub enum Entry {
+    File = 1,
+    Built = 2,
+    Words = 3,
+}
+
+pub const ENTRIES: [Entry; 3] = [Entry::File, Entry::Built, Entry::Words];
 
 #[derive(Default)]
 pub struct Tally {
@@ -114,6 +126,7 @@ impl Tally {
     }
 
     fn moment(&mut self, beam: &Beam, capacity: u64) {
+        self.add_if(beam.moment_quasi == beam.moment, "Mq at M", 0);
         let net = beam.net_force();
         let edge = (2 * beam.cover_compression * beam.block_force()) as i64;
         let doubled = beam.compression.groups > 0;
@@ -158,9 +171,20 @@ impl Tally {
         let least = 24 * beam.concrete.ft * beam.b * beam.spacing;
         self.add_if(beam.needs_links() && provided == least, "5.5.6r at", 0);
         self.add_if(!beam.needs_links() && provided < least, "5.5.6r not put", 0);
-        let limit = 87 * beam.steel.fyk * beam.h0() * beam.tension.area;
-        let put = beam.has_minimum_links();
-        self.add_if(put && 1_000_000 * beam.moment_quasi == limit, "4.4.1 at", 0);
+        if beam.has_minimum_links() {
+            self.stress(beam);
+        }
+    }
+
+    /// Mq at 4.4.1's limit, at the highest whole number, one above and more, without and with compression bars.
+    fn stress(&mut self, beam: &Beam) {
+        let limit = beam.stress_limit();
+        let highest = limit / 1_000_000;
+        let doubled = u64::from(beam.compression.groups > 0);
+        self.add_if(1_000_000 * beam.moment_quasi == limit, "4.4.1 at", 0);
+        self.add_if(beam.moment_quasi == highest, "4.4.1 highest Mq, compression bars", doubled);
+        self.add_if(beam.moment_quasi == highest + 1, "4.4.1 one above, compression bars", doubled);
+        self.add_if(beam.moment_quasi > highest + 1, "4.4.1 more above, compression bars", doubled);
     }
 
     fn width(&mut self, beam: &Beam, width: u64) {
@@ -329,7 +353,7 @@ pub fn required() -> Vec<Case> {
 }
 
 /// Cases of beams without variants.
-const BEAM_CASES: [&str; 24] = [
+const BEAM_CASES: [&str; 25] = [
     "6.3.1 at 0.2 percent",
     "6.3.1 at 45 ft/fy",
     "6.3.1 by 45 ft/fy",
@@ -348,6 +372,7 @@ const BEAM_CASES: [&str; 24] = [
     "V at 0.7 ft b h0",
     "5.5.6r at",
     "5.5.6r not put",
+    "Mq at M",
     "4.4.1 at",
     "4.4.2 with flange",
     "4.5.1 at limit",
@@ -358,6 +383,9 @@ const BEAM_CASES: [&str; 24] = [
 
 fn put_beam_cases(put: &mut impl FnMut(&'static str, &[u64])) {
     BEAM_CASES.into_iter().for_each(|about| put(about, &[0]));
+    put("4.4.1 highest Mq, compression bars", &[0, 1]);
+    put("4.4.1 one above, compression bars", &[0, 1]);
+    put("4.4.1 more above, compression bars", &[0, 1]);
     put("steel code, fyk", &[400, 500]);
     put("link steel, fyv", &[270, 360]);
     put("beam concrete", &[20, 25, 30, 35, 40, 45, 50]);

@@ -94,7 +94,7 @@ impl Checker for Model {
 }
 
 /// Numbers of answers: by question, and 0 for a written text or schedule.
-pub type Answers = [u64; 14];
+pub type Answers = [u64; 15];
 
 /// A comparison under way; each method yields a description of the first difference.
 pub struct Comparison<'a, C> {
@@ -201,11 +201,11 @@ impl<'a, C: Checker> Comparison<'a, C> {
             word_lists: 0,
             written: 0,
             calls: 0,
-            schedule_answers: [0; 14],
-            built_answers: [0; 14],
-            utilization_answers: [0; 14],
-            totals_answers: [0; 14],
-            writer_answers: [0; 14],
+            schedule_answers: [0; 15],
+            built_answers: [0; 15],
+            utilization_answers: [0; 15],
+            totals_answers: [0; 15],
+            writer_answers: [0; 15],
         }
     }
 

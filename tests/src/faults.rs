@@ -1,12 +1,13 @@
 //! The comparison and the claim notice what they are there to notice.
 
+mod moments;
 mod points;
 mod written;
 
 use std::os::unix::process::ExitStatusExt;
 use std::process::Command;
 
-use crate::branches::{required, required_of_point_loads, required_of_writer};
+use crate::branches::{required, required_of_moments, required_of_point_loads, required_of_writer};
 use crate::claim::check_line;
 use crate::comparison::{Checker, Comparison, Model};
 use crate::guard::{List, Words};
@@ -221,6 +222,7 @@ fn the_model_equals_itself_and_meets_demand_3() {
     assert_eq!(runs::quick(&mut comparison, &random), Ok(()));
     assert_eq!(comparison.tally.missing(required()), Vec::new());
     assert_eq!(comparison.tally.missing(required_of_point_loads()), Vec::new());
+    assert_eq!(comparison.tally.missing(required_of_moments()), Vec::new());
     assert_eq!(comparison.writer_tally.missing(required_of_writer()), Vec::new());
     assert!(comparison.totals_answers[0] > 0 && comparison.totals_answers[7] > 0);
 }

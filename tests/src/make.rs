@@ -10,6 +10,7 @@ pub mod flaws;
 pub mod hunts;
 pub mod lists;
 pub mod meshes;
+pub mod moments;
 pub mod points;
 pub mod random;
 pub mod record;
@@ -23,7 +24,7 @@ pub use columns::{hugging_columns, random_column};
 pub use meshes::{hugging_meshes, random_mesh};
 pub use points::random_point_loaded;
 pub use random::Random;
-pub use record::{decode, encode, push_number, Record};
+pub use record::{decode, decode_first, encode, push_number, Record};
 
 /// A likely accepted member of any kind.
 pub fn random_member(random: &Random) -> Record {

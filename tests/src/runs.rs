@@ -1,14 +1,18 @@
 //! What a comparison is run on.
 
+pub mod moments;
 pub mod points;
 pub mod written;
 
 use crate::branches::is_family_2_at_c25;
 use crate::comparison::{Checker, Comparison};
+use crate::make::words::of_record;
 use crate::make::{
     self, beams, columns, damage, edges, encode, equalities, hunts, lists, meshes, Random, Record,
 };
-use crate::model::built::Group;
+use crate::model::built::{self, Group};
+use crate::model::held;
+use crate::model::schedule::{self, Refusal};
 
 type Outcome = Result<(), String>;
 
@@ -32,7 +36,8 @@ pub fn all<C: Checker>(
     group_lists(comparison, random, 6000 * multiplier)?;
     written::edge_lists(comparison, random, multiplier)?;
     written::lists(comparison, random, 6000 * multiplier)?;
-    every_cover(comparison, random)
+    every_cover(comparison, random)?;
+    moments::moments(comparison, random, 20 * multiplier)
 }
 
 /// A short run that still reaches every case.
@@ -47,7 +52,8 @@ pub fn quick<C: Checker>(comparison: &mut Comparison<C>, random: &Random) -> Out
     built_members(comparison, random, 100)?;
     group_lists(comparison, random, 100)?;
     written::lists(comparison, random, 100)?;
-    every_cover(comparison, random)
+    every_cover(comparison, random)?;
+    moments::moments(comparison, random, 2)
 }
 
 /// Schedules of few members, accepted or not.
@@ -84,6 +90,40 @@ fn together<C: Checker>(
         comparison.records(&[record])?;
     }
     Ok(())
+}
+
+/// A file that is to be refused so.
+fn refused<C: Checker>(comparison: &mut Comparison<C>, file: &[u8], expected: Refusal) -> Outcome {
+    comparison.schedule(file)?;
+    match schedule::read(file) {
+        Err(refusal) if refusal == expected => Ok(()),
+        answer => Err(format!("file {file:?}\nmodel: {answer:?}, not {expected:?}")),
+    }
+}
+
+/// A member that every entry is to refuse by this question, naming member 1, or to accept, where it is 0.
+fn answered<C: Checker>(
+    comparison: &mut Comparison<C>,
+    random: &Random,
+    record: &Record,
+    expected: u32,
+) -> Outcome {
+    let words = of_record(record, random);
+    let file = encode(std::slice::from_ref(record));
+    comparison.built(record)?;
+    comparison.words(&words)?;
+    comparison.schedule(&file)?;
+    let answers = [
+        schedule::read(&file).err(),
+        built::read(&record.built(), &record.first, &record.second).err(),
+        held::read(&words, words.len()).err(),
+    ];
+    let expected = (expected > 0).then_some(Refusal { question: expected, member: 1 });
+    if answers.iter().all(|answer| *answer == expected) {
+        Ok(())
+    } else {
+        Err(format!("{record:?}\nmodel: {answers:?}, not {expected:?}"))
+    }
 }
 
 /// Members and their neighbours at every figure.

@@ -129,6 +129,19 @@ fn show_point_load(out: &mut [u8]) {
     print(answer);
 }
 
+/// Mq may be as large as M.
+fn show_moments(out: &mut [u8]) {
+    let equal = Beam { m: BEAM.mq, ..BEAM };
+    print(koxaltes::member_report(&equal.member(1), &TENSION, &[], out));
+    // one more
+    let above = Beam { mq: BEAM.mq + 1, ..equal };
+    let answer = koxaltes::member_report(&above.member(1), &TENSION, &[], out);
+    assert_eq!(answer.err().and_then(|r| r.named()), Some(Question::ServiceMoment));
+    print(answer);
+    let exchanged = Beam { m: BEAM.mq, mq: BEAM.m, ..BEAM };
+    print(koxaltes::write_schedule(&[exchanged.record(1, &TENSION, &[])], out));
+}
+
 fn main() {
     let mut out = [0; LONGEST_REPORT];
     show_member(&mut out);
@@ -139,4 +152,5 @@ fn main() {
     print(koxaltes::report(&schedule, &mut out));
     show_records(&schedule, &mut out);
     show_point_load(&mut out);
+    show_moments(&mut out);
 }

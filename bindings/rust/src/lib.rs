@@ -69,6 +69,8 @@ pub enum Question {
     Buffer = 12,
     /// The written file is longer than the buffer.
     File = 13,
+    /// Mq above M in a beam.
+    ServiceMoment = 14,
 }
 
 impl Question {
@@ -88,6 +90,7 @@ impl Question {
             11 => Question::Trailing,
             12 => Question::Buffer,
             13 => Question::File,
+            14 => Question::ServiceMoment,
             _ => return None,
         })
     }
@@ -413,8 +416,8 @@ pub fn bar_totals(groups: &[Group], count: usize) -> Result<BarTotals, Refusal> 
 }
 
 /// The file of a held schedule: its bytes, which fill `out` from its first byte. Refused with question 4 where there are more
-/// than 500 records; then with the first no to 5 to 10 and the record's place from 1; last with 13. A refusal leaves `out` as
-/// it was. The file is an accepted schedule with these members, and no other file has them.
+/// than 500 records; then with the first no to 5 to 10 or 14 and the record's place from 1; last with 13. A refusal leaves
+/// `out` as it was. The file is an accepted schedule with these members, and no other file has them.
 pub fn write_schedule<'a>(records: &[Record], out: &'a mut [u8]) -> Result<&'a [u8], Refusal> {
     // SAFETY: a record is `RECORD_WORDS` words without padding, so the pointer is valid for that many times the length, which
     // no slice makes overflow; `out` is valid for its length and borrowed alone.

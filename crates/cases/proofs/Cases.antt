@@ -13,6 +13,7 @@ use Rattle.material.specs.Steel.{steelOf, fyvOf}
 use Rattle.bars.specs.Sums.{barCount, area, sumD, sumE, groupArea, groupDiameters, groupSquares}
 use Rattle.consistency.specs.Consistency.{flangeFits, compressionFits, depthFits, loadFits, beamConsistent, columnConsistent, meshConsistent}
 use Rattle.reinforcement.specs.Reinforcement.{beamBars, beamRatio, columnBars}
+use Rattle.service_moment.specs.ServiceMoment.{serviceMomentFits}
 use Rattle.field_domain.specs.Domain.{isPresent, holds, fieldHolds}
 use Rattle.field_table.specs.Fields.{known, kindOf, fieldsOf}
 use Rattle.section.specs.Section.{sectionOf}
@@ -50,7 +51,7 @@ use Rattle.writer.specs.Written.{fileOf}
 use Rattle.cases.specs.Cases.{Table}
 
 pub table : Table
-unfolding fileOf heldMembers recordsOf recordsFrom recordAt recordMembers recordVerdict builtVerdict fieldsVerdict scheduleBytes membersBytes memberNumbers beamNumbers columnNumbers meshNumbers bytesOfAll bytesOf septetsOf parseLine parsedFigure lineOf wordOf split splitMore isDecimal every valueOf valueFrom outputOf reportOf textOf endedBy joinedBy decimal digits lentReportOf lentUtilizationOf lentVerdict lentMember lentBeam lentColumn lentFieldsHold namedHold barTotals numberAt septetsAt lastSeptet schedule members member markAt kindAt markRises markInRange memberBody fields field fieldsOf known kindOf isPresent holds areaOf memberVerdict fieldHolds beamVerdict columnVerdict meshVerdict beamConsistent flangeFits compressionFits depthFits loadFits beamBars beamRatio columnConsistent columnBars meshConsistent barCount memberAt beamAt columnAt meshAt beamOutcome sectionOutcome fromDepth fromBending fromShear fromSpacing fromLeastLinks fromStress fromWidth fromDeflection sectionOf concreteOf steelOf fyvOf area sumD sumE groupArea groupDiameters groupSquares leastSteel compressionDepth compressionYields yieldedCapacity coupleCapacity bendingCapacity concreteShear linkShear shearCapacity shearAbove linkSpacing leastLinks spacingLimit stressHolds steelStress stiffening meanStress crackSpacing widthOf σ q crackWidth widthLimit flexibility curvature shortTerm longTerm deflectionOf deflection spanDivisor deflectionHolds columnOutcome linksOutcome slendernessOutcome axialOutcome steelFits linksFit slendernessFits axialCapacity stability interval interpolated concreteArea squashLoad point meshOutcome lapOutcome anchorageLength lapLength requiredLap tensionLap basicLength multiple up down clamp beamUtilization columnUtilization meshUtilization overFigure overLimit ratio deflectionLimit quotient ofInt div round lt
+unfolding fileOf heldMembers recordsOf recordsFrom recordAt recordMembers recordVerdict builtVerdict fieldsVerdict scheduleBytes membersBytes memberNumbers beamNumbers columnNumbers meshNumbers bytesOfAll bytesOf septetsOf parseLine parsedFigure lineOf wordOf split splitMore isDecimal every valueOf valueFrom outputOf reportOf textOf endedBy joinedBy decimal digits lentReportOf lentUtilizationOf lentVerdict lentMember lentBeam lentColumn lentFieldsHold namedHold barTotals numberAt septetsAt lastSeptet schedule members member markAt kindAt markRises markInRange memberBody fields field fieldsOf known kindOf isPresent holds areaOf memberVerdict fieldHolds beamVerdict columnVerdict meshVerdict beamConsistent flangeFits compressionFits depthFits loadFits beamBars beamRatio serviceMomentFits columnConsistent columnBars meshConsistent barCount memberAt beamAt columnAt meshAt beamOutcome sectionOutcome fromDepth fromBending fromShear fromSpacing fromLeastLinks fromStress fromWidth fromDeflection sectionOf concreteOf steelOf fyvOf area sumD sumE groupArea groupDiameters groupSquares leastSteel compressionDepth compressionYields yieldedCapacity coupleCapacity bendingCapacity concreteShear linkShear shearCapacity shearAbove linkSpacing leastLinks spacingLimit stressHolds steelStress stiffening meanStress crackSpacing widthOf σ q crackWidth widthLimit flexibility curvature shortTerm longTerm deflectionOf deflection spanDivisor deflectionHolds columnOutcome linksOutcome slendernessOutcome axialOutcome steelFits linksFit slendernessFits axialCapacity stability interval interpolated concreteArea squashLoad point meshOutcome lapOutcome anchorageLength lapLength requiredLap tensionLap basicLength multiple up down clamp beamUtilization columnUtilization meshUtilization overFigure overLimit ratio deflectionLimit quotient ofInt div round lt
 table =
     record {
       beam-1 = refl;
@@ -99,6 +100,17 @@ table =
       point-past-span = refl;
       point-past-range = refl;
       point-missing = refl;
+      moments-equal = refl;
+      service-above = refl;
+      moments-exchanged = refl;
+      no-design-moment = refl;
+      point-moments-equal = refl;
+      point-service-above = refl;
+      consistency-before-service = refl;
+      bars-before-service = refl;
+      ratio-before-service = refl;
+      service-before-mark = refl;
+      service-of-second = refl;
       cross-bar-two = refl;
       ends-in-a-field = refl;
       byte-left = refl;
@@ -115,6 +127,8 @@ table =
       line-1 = refl;
       line-point = refl;
       point-refused = refl;
+      line-service = refl;
+      line-point-service = refl;
       line-2 = refl;
       line-3 = refl;
       count-above = refl;
@@ -134,9 +148,12 @@ table =
       mark-again = refl;
       mark-before-kind = refl;
       kind-nine = refl;
+      written-service = refl;
+      written-point-service = refl;
       file-fits = refl;
       file-too-long = refl;
       mark-before-room = refl;
+      service-before-room = refl;
       totals = refl;
       totals-above = refl;
       utilization-1 = refl;
@@ -145,6 +162,8 @@ table =
       utilization-3 = refl;
       utilization-none = refl;
       utilization-refused = refl;
+      utilization-service = refl;
+      utilization-point-service = refl;
       governs-1 = refl;
       governs-3 = refl;
       governs-none = refl;

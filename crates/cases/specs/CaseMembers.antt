@@ -90,10 +90,13 @@ mesh₃ anchorage lap =
 abbrev pub built : ℕ → ℕ → List ℕ → Lent
 built mark kind v = record { mark = mark; kind = kind; fields = record { v = v ++ replicate (24 - length v) 0 } }
 
--- of kind 1 or 4, with the count of its tension groups and a
+-- of kind 1 or 4, with the count of its tension groups, M, Mq and a
+abbrev pub builtBeamWith : ℕ → ℕ → ℕ → ℕ → ℕ → Lent
+builtBeamWith kind count design service a =
+    built 1 kind (250 ∷ 500 ∷ 250 ∷ 0 ∷ 40 ∷ 0 ∷ 30 ∷ 1 ∷ count ∷ 0 ∷ 8 ∷ 2 ∷ 200 ∷ 1 ∷ 30 ∷ 6000 ∷ design ∷ service ∷ 120000 ∷ 1 ∷ 0 ∷ a ∷ [])
+
 abbrev pub builtBeamOf : ℕ → ℕ → ℕ → Lent
-builtBeamOf kind count a =
-    built 1 kind (250 ∷ 500 ∷ 250 ∷ 0 ∷ 40 ∷ 0 ∷ 30 ∷ 1 ∷ count ∷ 0 ∷ 8 ∷ 2 ∷ 200 ∷ 1 ∷ 30 ∷ 6000 ∷ 150000 ∷ 90000 ∷ 120000 ∷ 1 ∷ 0 ∷ a ∷ [])
+builtBeamOf kind count a = builtBeamWith kind count 150000 90000 a
 
 abbrev pub builtBeam : ℕ → Lent
 builtBeam count = builtBeamOf 1 count 0
@@ -183,11 +186,33 @@ meshPlaced =
 
 -- ---- As a schedule's bytes.
 
--- with its kind and what follows the fields of kind 1
+-- numbers of three bytes
+abbrev pub of90000 : List ℕ
+of90000 = 144 ∷ 191 ∷ 5 ∷ []
+
+abbrev pub of90001 : List ℕ
+of90001 = 145 ∷ 191 ∷ 5 ∷ []
+
+abbrev pub of150000 : List ℕ
+of150000 = 240 ∷ 147 ∷ 9 ∷ []
+
+-- beam 1's tension groups: their count, then diameter and bars
+abbrev pub fourBars : List ℕ
+fourBars = 1 ∷ 20 ∷ 4 ∷ []
+
+-- with its mark, its kind, its tension groups, M and Mq, and what follows the fields of kind 1
+abbrev pub beamBytesWith : ℕ → ℕ → List ℕ → List ℕ → List ℕ → List ℕ
+beamBytesWith mark kind groups moments last =
+    mark ∷ kind ∷ 250 ∷ 1 ∷ 244 ∷ 3 ∷ 250 ∷ 1 ∷ 0 ∷ 40 ∷ 0 ∷ 30 ∷ 1 ∷ (groups
+    ++ (0 ∷ 8 ∷ 2 ∷ 200 ∷ 1 ∷ 1 ∷ 30 ∷ 240 ∷ 46 ∷ (moments
+    ++ (192 ∷ 169 ∷ 7 ∷ 1 ∷ 0 ∷ last))))
+
 abbrev pub beamBytes : ℕ → List ℕ → List ℕ
-beamBytes kind last =
-    1 ∷ kind ∷ 250 ∷ 1 ∷ 244 ∷ 3 ∷ 250 ∷ 1 ∷ 0 ∷ 40 ∷ 0 ∷ 30 ∷ 1 ∷ 1 ∷ 20 ∷ 4 ∷ 0 ∷ 8 ∷ 2 ∷ 200 ∷ 1 ∷ 1
-    ∷ 30 ∷ 240 ∷ 46 ∷ 240 ∷ 147 ∷ 9 ∷ 144 ∷ 191 ∷ 5 ∷ 192 ∷ 169 ∷ 7 ∷ 1 ∷ 0 ∷ last
+beamBytes kind last = beamBytesWith 1 kind fourBars (of150000 ++ of90000) last
+
+-- beam 1 alone, of kind 1, with its tension groups, M and Mq
+abbrev pub momentBytes : List ℕ → List ℕ → List ℕ → List ℕ
+momentBytes groups design service = 1 ∷ beamBytesWith 1 1 groups (design ++ service) []
 
 -- beam 1 alone, of kind 4
 abbrev pub pointBytes : List ℕ → List ℕ
@@ -211,13 +236,16 @@ printedBytes steel = 3 ∷ (beamBytes 1 [] ++ (columnBytes steel ++ meshBytes 3)
 abbrev threePast : ℕ → List ℕ
 threePast past = past ∷ past ∷ past ∷ past ∷ past ∷ past ∷ []
 
--- of kind 1 or 4, with the slot of a
-abbrev pub beamWords : ℕ → ℕ → ℕ → List ℕ
-beamWords kind a past =
-    1 ∷ kind ∷ 250 ∷ 500 ∷ 250 ∷ 0 ∷ 40 ∷ 0 ∷ 30 ∷ 1
+-- with its mark, of kind 1 or 4, with M, Mq and the slot of a
+abbrev pub beamWordsWith : ℕ → ℕ → ℕ → ℕ → ℕ → ℕ → List ℕ
+beamWordsWith mark kind design service a past =
+    mark ∷ kind ∷ 250 ∷ 500 ∷ 250 ∷ 0 ∷ 40 ∷ 0 ∷ 30 ∷ 1
     ∷ 1 ∷ 20 ∷ 4 ∷ (threePast past
     ++ (0 ∷ past ∷ past ∷ (threePast past
-    ++ (8 ∷ 2 ∷ 200 ∷ 1 ∷ 30 ∷ 6000 ∷ 150000 ∷ 90000 ∷ 120000 ∷ 1 ∷ 0 ∷ a ∷ past ∷ past ∷ []))))
+    ++ (8 ∷ 2 ∷ 200 ∷ 1 ∷ 30 ∷ 6000 ∷ design ∷ service ∷ 120000 ∷ 1 ∷ 0 ∷ a ∷ past ∷ past ∷ []))))
+
+abbrev pub beamWords : ℕ → ℕ → ℕ → List ℕ
+beamWords kind a past = beamWordsWith 1 kind 150000 90000 a past
 
 abbrev pub columnWords : ℕ → List ℕ
 columnWords past = 2 ∷ 2 ∷ 400 ∷ 400 ∷ 30 ∷ 1 ∷ 1 ∷ 20 ∷ 8 ∷ (threePast past ++ (8 ∷ 250 ∷ 4000 ∷ 2500000 ∷ replicate 23 past))

@@ -13,7 +13,7 @@ use Rattle.quantity.specs.Unit.{millimetres}
 use Rattle.member.specs.declared.Load.the-variants.{Uniform, Point}
 use Rattle.outcome.specs.declared.Figure.the-variants.{Reached, Unreached}
 use Rattle.line.specs.ParsedLine.{parseLine}
-use Rattle.question.specs.declared.Question.the-variants.{Mark, Kind, Field, Consistency}
+use Rattle.question.specs.declared.Question.the-variants.{Mark, Kind, Field, Consistency, ServiceMoment}
 use Rattle.deflection.specs.Steps.{spanDivisor}
 use Rattle.stability.specs.Steps.{stability}
 use Rattle.ratio.specs.declared.Utilization.{Utilization}
@@ -38,6 +38,7 @@ use Rattle.cases.specs.CaseMembers.{
   pointLoaded,
   column₂,
   mesh₃,
+  builtBeamWith,
   builtBeamOf,
   builtBeam,
   builtColumn,
@@ -49,9 +50,16 @@ use Rattle.cases.specs.CaseMembers.{
   columnPlaced,
   placedMesh,
   meshPlaced,
+  of90000,
+  of90001,
+  of150000,
+  fourBars,
+  beamBytesWith,
+  momentBytes,
   pointBytes,
   meshBytes,
   printedBytes,
+  beamWordsWith,
   beamWords,
   meshWords,
   printedWords,
@@ -178,6 +186,20 @@ pub record Table : Type 0 where
   pub point-past-span : outputOf (pointBytes (241 ∷ 46 ∷ [])) ≡ bytes "refused 8 member 1\n"
   pub point-past-range : outputOf (pointBytes (225 ∷ 93 ∷ [])) ≡ bytes "refused 7 member 1\n"
   pub point-missing : outputOf (pointBytes []) ≡ bytes "refused 2 member 1\n"
+  -- question 14 of beam 1: M = Mq = 90000, Mq one above, the moments exchanged, M = 0
+  pub moments-equal : outputOf (momentBytes fourBars of90000 of90000) ≡ bytes "members 1\n1 OK 179495 177587 172 1885\n"
+  pub service-above : outputOf (momentBytes fourBars of90000 of90001) ≡ bytes "refused 14 member 1\n"
+  pub moments-exchanged : outputOf (momentBytes fourBars of90000 of150000) ≡ bytes "refused 14 member 1\n"
+  pub no-design-moment : outputOf (momentBytes fourBars (0 ∷ []) (1 ∷ [])) ≡ bytes "refused 14 member 1\n"
+  -- under a point load
+  pub point-moments-equal : outputOf (1 ∷ beamBytesWith 1 4 fourBars (of90000 ++ of90000) (0 ∷ [])) ≡ bytes "members 1\n1 OK 179495 177587 172 1885\n"
+  pub point-service-above : outputOf (1 ∷ beamBytesWith 1 4 fourBars (of90000 ++ of90001) (0 ∷ [])) ≡ bytes "refused 14 member 1\n"
+  -- 8 (a = l0 + 1), 9 (41 bars) and 10 (20 bars of 50 mm) come before it, 5 of the next member after it; it names the member's place
+  pub consistency-before-service : outputOf (1 ∷ beamBytesWith 1 4 fourBars (of90000 ++ of90001) (241 ∷ 46 ∷ [])) ≡ bytes "refused 8 member 1\n"
+  pub bars-before-service : outputOf (momentBytes (3 ∷ 6 ∷ 20 ∷ 6 ∷ 20 ∷ 6 ∷ 1 ∷ []) of90000 of90001) ≡ bytes "refused 9 member 1\n"
+  pub ratio-before-service : outputOf (momentBytes (1 ∷ 50 ∷ 20 ∷ []) of90000 of90001) ≡ bytes "refused 10 member 1\n"
+  pub service-before-mark : outputOf (2 ∷ (beamBytesWith 1 1 fourBars (of90000 ++ of90001) [] ++ meshBytes 1)) ≡ bytes "refused 14 member 1\n"
+  pub service-of-second : outputOf (2 ∷ (meshBytes 1 ++ beamBytesWith 2 1 fourBars (of90000 ++ of90001) [])) ≡ bytes "refused 14 member 2\n"
   pub cross-bar-two : outputOf (1 ∷ 1 ∷ 3 ∷ 1 ∷ 30 ∷ 10 ∷ 2 ∷ []) ≡ bytes "refused 7 member 1\n"
   pub ends-in-a-field : outputOf (1 ∷ 1 ∷ 2 ∷ 172 ∷ 2 ∷ 172 ∷ 2 ∷ 30 ∷ []) ≡ bytes "refused 2 member 1\n"
   pub byte-left : outputOf (0 ∷ 0 ∷ []) ≡ bytes "refused 11 member 0\n"
@@ -214,6 +236,9 @@ pub record Table : Type 0 where
   -- of kind 4, a = 1000 and one past l0
   pub line-point : lentReportOf (builtBeamOf 4 1 1000) (bars 4 20) [] ≡ got (bytes "1 OK 179495 153144 172 1885\n")
   pub point-refused : lentReportOf (builtBeamOf 4 1 6001) (bars 4 20) [] ≡ no (refusal Consistency 1)
+  -- Mq one above M
+  pub line-service : lentReportOf (builtBeamWith 1 1 90000 90001 0) (bars 4 20) [] ≡ no (refusal ServiceMoment 1)
+  pub line-point-service : lentReportOf (builtBeamWith 4 1 90000 90001 0) (bars 4 20) [] ≡ no (refusal ServiceMoment 1)
   pub line-2 : lentReportOf builtColumn (bars 8 20) [] ≡ got (bytes "2 OK 2816134 - - -\n")
   pub line-3 : lentReportOf (builtMesh 270 350) [] [] ≡ got (bytes "3 OK 263 342 - -\n")
   pub count-above : lentReportOf (builtBeam 2) (bars 4 20) [] ≡ no (refusal Field 1)
@@ -243,10 +268,14 @@ pub record Table : Type 0 where
   pub mark-again : fileOf (meshWords 1 0 ++ meshWords 1 0) ≡ no (refusal Mark 2)
   pub mark-before-kind : fileOf (meshWords 2 0 ++ (1 ∷ 9 ∷ replicate 40 0)) ≡ no (refusal Mark 2)
   pub kind-nine : fileOf (meshWords 1 0 ++ (2 ∷ 9 ∷ replicate 40 0)) ≡ no (refusal Kind 2)
-  -- room for document 01's file of 72 bytes, and for one byte less; a member's question before it
+  -- Mq one above M, in the first and in the second member
+  pub written-service : fileOf (beamWordsWith 1 1 90000 90001 7 7) ≡ no (refusal ServiceMoment 1)
+  pub written-point-service : fileOf (meshWords 1 0 ++ beamWordsWith 2 4 90000 90001 0 7) ≡ no (refusal ServiceMoment 2)
+  -- room for document 01's file of 72 bytes, and for one byte less; members' questions before it
   pub file-fits : answered fileTooLong (fileOf (printedWords 0)) 72 ≡ record { question = 0; member = 0; length = 72 }
   pub file-too-long : answered fileTooLong (fileOf (printedWords 0)) 71 ≡ record { question = 13; member = 0; length = 0 }
   pub mark-before-room : answered fileTooLong (fileOf (meshWords 0 0)) 0 ≡ record { question = 5; member = 1; length = 0 }
+  pub service-before-room : answered fileTooLong (fileOf (beamWordsWith 1 1 90000 90001 7 7)) 0 ≡ record { question = 14; member = 1; length = 0 }
   -- totals of a list: S in tenths of mm², D and E; and a count above the list
   pub totals : barTotals 1 (bars 4 20) ≡ record { question = 0; member = 0; bars = 4; area = 12568; diameters = 80; squares = 1600 }
   pub totals-above : barTotals 2 (bars 4 20) ≡ record { question = 7; member = 1; bars = 0; area = 0; diameters = 0; squares = 0 }
@@ -257,6 +286,8 @@ pub record Table : Type 0 where
   pub utilization-3 : lentUtilizationOf (builtMesh 270 350) [] [] ≡ valuesGiven ofMesh
   pub utilization-none : lentUtilizationOf (builtMesh 0 350) [] [] ≡ valuesGiven ofNone
   pub utilization-refused : lentUtilizationOf (builtMesh 270 100001) [] [] ≡ valuesRefused (refusal Field 1)
+  pub utilization-service : lentUtilizationOf (builtBeamWith 1 1 90000 90001 0) (bars 4 20) [] ≡ valuesRefused (refusal ServiceMoment 1)
+  pub utilization-point-service : lentUtilizationOf (builtBeamWith 4 1 90000 90001 0) (bars 4 20) [] ≡ valuesRefused (refusal ServiceMoment 1)
   -- the moment governs the beam, the lap the mesh
   pub governs-1 : governingOf ofBeam ≡ double (ofBeam .first)
   pub governs-3 : governingOf ofMesh ≡ double (ofMesh .second)

@@ -108,6 +108,9 @@ module _ (v : List ℕ) (k : ℕ) where
   pub groups-some : 1 ≤ slot v k → 1 ≤ length (groupsAt v k)
   groups-some h = simp length-take (omega arith)
 
+  groups-most : length (groupsAt v k) ≤ 4
+  groups-most = simp length-take (omega arith)
+
 -- ---- A beam.
 
 -- the fields of kind 1, which every beam has
@@ -137,6 +140,7 @@ module _ (v : List ℕ) (e : fieldsHold beamFields 0 v ≡ true) where
         aₛ-most = in-range v 4 20 200 (beam-held 4 tt) .1;
         a′-most = zero-or v 5 20 200 (beam-held 5 tt);
         tension = tension-accepted;
+        tension-most = groups-most v tensionCount;
         compression = compression-accepted;
       }
 

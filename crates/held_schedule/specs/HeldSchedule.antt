@@ -34,7 +34,7 @@ recordsOf words = recordsFrom (length words / recordWords) words 0
 
 -- ---- The members.
 
--- 5 (range, and above the mark before) and 6 to 10 of one record
+-- 5 (range, and above the mark before) and the other questions of a built member
 unfoldable pub recordVerdict : ℕ → Built → Verdict
 recordVerdict before x = askVerdict Mark (ltb before (x .mark)) (builtVerdict (x .mark) (x .kind) (x .fields .v))
 

@@ -167,7 +167,7 @@ module _ (v : List ℕ) (first second : List Group) where
 
 -- ---- A member of any kind.
 
--- a mark has no part in questions 8 to 10
+-- a mark has no part in the questions of a whole member
 mark-free : (mark : ℕ) (kind : MemberKind) (v : List ℕ) → verdictOf (memberAt 0 kind v) ≡ verdictOf (memberAt mark kind v)
 unfolding memberAt
 mark-free mark (kinds.Beam pointLoad) v = refl
@@ -191,7 +191,7 @@ module _ (v : List ℕ) (first second : List Group) where
   member-is mark kinds.Column e = ap (column mark) (column-is v first second e)
   member-is mark kinds.Mesh e = ap (mesh mark) (mesh-is v first second)
 
-  -- 7 to 10
+  -- 7, and the questions of a whole member
   verdict-is : (mark : ℕ) (kind : MemberKind)
       → fieldsVerdict kind (slotsOf kind) ≡ askVerdict Field (lentFieldsHold kind v first second) (verdictOf (lentOf kind mark v first second))
   unfolding fieldsVerdict memberVerdict

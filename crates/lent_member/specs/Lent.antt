@@ -48,7 +48,7 @@ lentOf kinds.Mesh mark v first second = mesh mark (meshAt v)
 unfoldable pub lentMember : Lent → List Group → List Group → Member
 lentMember x first second = lentOf (kindOf (x .kind)) (x .mark) (x .fields .v) first second
 
--- ---- Its questions: 5 (range only) and 6 to 10.
+-- ---- Its questions: 5 (range only), 6, 7, and those of a whole member.
 
 -- the fields of a kind without those of its groups
 abbrev pub ungrouped : List Domain → List Domain

@@ -1,5 +1,5 @@
--- What the checks may use of a member that passed questions 7 to 10.
--- The ranges are those of document 01, "Schedule bytes"; the relations those of questions 8 to 10 (kind 4: document 02, wish 3).
+-- What holds of a member that passed question 7 and those of a whole member (8 to 10, 14).
+-- The ranges are those of document 01, "Schedule bytes"; the relations those of the questions (kind 4 and 14: document 02, requests 3 and 5).
 use Prim.Native.Nat.{ℕ, _+_, _*_, _≤_, _<_}
 use mathlib.Core.Path.{_≡_}
 use mathlib.Core.Bool.{true}
@@ -23,6 +23,7 @@ pub record BeamInRange (x : Beam) : Type 0 where
   pub aₛ-most : x .aₛ ≤ 200
   pub a′-most : x .a′ ≤ 200
   pub tension : AcceptedGroups (x .tension)
+  pub tension-most : length (x .tension) ≤ 4
   pub compression : AcceptedGroups (x .compression)
 
 -- a point load stands at most this far from the support
@@ -75,6 +76,8 @@ pub record AcceptedBeam (x : Beam) : Type 0 where
   pub compression-bars : barCount (x .compression) ≤ 40
   -- 10
   pub ratio : 5 * area (x .tension) ≤ 2 * x .b * h₀ x
+  -- 14
+  pub service-moment : x .Mq ≤ x .M
 
 pub record AcceptedColumn (x : Column) : Type 0 where
   pub b-least : 300 ≤ x .b

@@ -16,7 +16,7 @@ use Rattle.question.specs.Reading.{Reading, got, andThen, passed, named}
 use Rattle.field_validator.specs.Placed.{Placed, placed}
 use Rattle.field_validator.specs.FieldsAt.{checked, fields, empty}
 
--- the member with this mark and kind, whose fields stand from p on: 7, then 8 to 10
+-- the member with this mark and kind, whose fields stand from p on: 7, then the questions of a whole member
 unfoldable pub memberBody : ℕ → ℕ → List ℕ → ℕ → Reading Question (Placed Built)
 memberBody mark kind s p =
     andThen (fields (fieldsOf (kindOf kind)) s p 0 empty) (λ f.

@@ -2,7 +2,7 @@
 use mathlib.Core.Path.{_≡_}
 use native.Mathlib.Omega.{arith}
 use Rattle.question.specs.declared.Question.{Question}
-use Rattle.question.specs.declared.Question.the-variants.{Size, NumberEnds, NumberForm, Count, Mark, Kind, Field, Consistency, Bars, Ratio, Trailing, Buffer, File}
+use Rattle.question.specs.declared.Question.the-variants.{Size, NumberEnds, NumberForm, Count, Mark, Kind, Field, Consistency, Bars, Ratio, Trailing, Buffer, File, ServiceMoment}
 use Rattle.question.specs.Question.{numberOf}
 
 pub numbered : (q : Question) → numberOf q ≡ 0 → ⊥
@@ -19,3 +19,4 @@ numbered Ratio e = omega arith
 numbered Trailing e = omega arith
 numbered Buffer e = omega arith
 numbered File e = omega arith
+numbered ServiceMoment e = omega arith

@@ -1,4 +1,4 @@
--- The numbers of the questions (document 01, "Questions before any check"; 13: document 02, request 2).
+-- The numbers of the questions (document 01, "Questions before any check"; 13 and 14: document 02, requests 2 and 5).
 use Prim.Native.Nat.{ℕ}
 use Rattle.question.specs.declared.Question.{Question}
 use Rattle.question.specs.declared.Question.the-variants.{
@@ -15,6 +15,7 @@ use Rattle.question.specs.declared.Question.the-variants.{
   Trailing,
   Buffer,
   File,
+  ServiceMoment,
 }
 
 abbrev pub numberOf : Question → ℕ
@@ -31,3 +32,4 @@ numberOf Ratio = 10
 numberOf Trailing = 11
 numberOf Buffer = 12
 numberOf File = 13
+numberOf ServiceMoment = 14

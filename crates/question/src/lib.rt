@@ -1,4 +1,4 @@
-// The questions that a schedule or a member is put before any check (document 01, "Questions before any check"; 13: document 02, request 2).
+// The questions that a schedule or a member is put before any check (document 01, "Questions before any check"; 13 and 14: document 02, requests 2 and 5).
 // A question is a rule of validation. Input that gets a no is refused: the first no is the answer, and nothing is checked.
 ghost use mathlib.Core.Path.{_≡_};
 ghost use Rattle.question.specs.Question.{numberOf};
@@ -30,6 +30,8 @@ pub enum Question {
     Buffer,
     // 13: is the buffer long enough for the file that is written?
     File,
+    // 14: beam: is the service moment Mq at most the design moment M?
+    ServiceMoment,
 }
 
 // What questions put one after the other come to.
@@ -64,5 +66,6 @@ pub fn number_of(q: Question) -> u32
         Question::Trailing => 11,
         Question::Buffer => 12,
         Question::File => 13,
+        Question::ServiceMoment => 14,
     }
 }

@@ -1,6 +1,5 @@
 // Questions 9 and 10: the number of bars, and the steel ratio of a beam.
 ghost use mathlib.Core.Path.{_≡_};
-ghost use mathlib.Core.Bool.{true};
 ghost use Rattle.member.specs.Member.{beamOf, columnOf};
 ghost use Rattle.reinforcement.specs.Reinforcement.{beamBars, beamRatio, columnBars};
 ghost use Rattle.bars.specs.Accepted.{AcceptedGroups};
@@ -26,7 +25,7 @@ pub fn beam_bars(x: Beam) -> bool
 
 // 10, of a beam.
 pub fn beam_ratio(x: Beam) -> bool
-    requires { ⌜ BeamInRange (beamOf x) × (beamBars (beamOf x) ≡ true) ⌝ }
+    requires { ⌜ BeamInRange (beamOf x) ⌝ }
     ensures { λ r. ⌜ r ≡ beamRatio (beamOf x) ⌝ }
 {
     let b = x.b.in_millimetres();

@@ -1,11 +1,11 @@
 -- What an accepted member satisfies.
 use Prim.Native.Nat.{ℕ, _*_, _≤_}
-use mathlib.Core.Path.{_≡_, refl, sym, ap, _∙_}
+use mathlib.Core.Path.{_≡_, refl}
 use mathlib.Core.Bool.{Bool, true, false}
 use mathlib.Core.List.{List}
 use native.Mathlib.Omega.{arith}
 use Rattle.question.specs.declared.Question.{Question}
-use Rattle.question.specs.declared.Question.the-variants.{Mark, Kind, Field, Consistency, Bars, Ratio}
+use Rattle.question.specs.declared.Question.the-variants.{Mark, Kind, Field, Consistency, Bars, Ratio, ServiceMoment}
 use Rattle.member.specs.Member.{h₀}
 use Rattle.bars.specs.Sums.{barCount, area}
 use Rattle.member.specs.Accepted.{AcceptedMark, AcceptedMember, AcceptedBeam, AcceptedColumn, AcceptedMesh}
@@ -13,6 +13,8 @@ use Rattle.consistency.specs.Consistency.{beamConsistent, columnConsistent, mes
 use Rattle.reinforcement.specs.Reinforcement.{beamBars, beamRatio, columnBars}
 use Rattle.consistency.proofs.Consistency.{Related, related, column-order, apart-alone}
 use Rattle.reinforcement.proofs.Reinforcement.{few-bars, ratio, column-few-bars}
+use Rattle.service_moment.specs.ServiceMoment.{serviceMomentFits}
+use Rattle.service_moment.proofs.ServiceMoment.{within-design}
 use Rattle.field_table.specs.declared.MemberKind.{MemberKind}
 use Rattle.field_table.specs.declared.MemberKind.the-variants as kinds
 use Rattle.field_table.specs.Fields.{tensionCount, compressionCount, columnCount, beamFields, columnFields, meshFields, known, kindOf, fieldsOf}
@@ -24,10 +26,6 @@ use Rattle.question.specs.declared.Verdict.{Verdict}
 use Rattle.question.specs.declared.Verdict.the-variants.{Accepted}
 use Rattle.verdict.specs.Verdict.{markInRange, memberVerdict, fieldsVerdict, builtVerdict, askVerdict, beamVerdict, columnVerdict, meshVerdict}
 
--- an answer of the code to a question, in the terms of the definition
-pub by-definition : {A : Type 0} (f : A → Bool) {x y : A} {r b : Bool} → x ≡ y → r ≡ f x → r ≡ b → f y ≡ b
-by-definition f p q t = sym (q ∙ ap f p) ∙ t
-
 -- an accepted member had a yes to the question
 pub asked-yes : (q : Question) (t : Bool) (next : Verdict) → askVerdict q t next ≡ Accepted → (t ≡ true) × (next ≡ Accepted)
 asked-yes q true next e = (refl, e)
@@ -37,9 +35,10 @@ asked-yes q false next e = absurd (let z : _≡_ {A = ℕ} 0 1 = cc in omega ari
 
 module _ (pointLoad : Bool) (v : List ℕ) (e : fieldsHold beamFields 0 v ≡ true) where
   with-relations : Related (beamAt pointLoad v) → (barCount (groupsAt v tensionCount) ≤ 40) × (barCount (groupsAt v compressionCount) ≤ 40)
-      → 5 * area (groupsAt v tensionCount) ≤ 2 * beamAt pointLoad v .b * h₀ (beamAt pointLoad v) → AcceptedBeam (beamAt pointLoad v)
+      → 5 * area (groupsAt v tensionCount) ≤ 2 * beamAt pointLoad v .b * h₀ (beamAt pointLoad v) → beamAt pointLoad v .Mq ≤ beamAt pointLoad v .M
+      → AcceptedBeam (beamAt pointLoad v)
   unfolding beamAt
-  with-relations r n s =
+  with-relations r n s m =
       record {
         b-least = in-range v 0 100 1000 (beam-held v e 0 tt) .0;
         b-most = in-range v 0 100 1000 (beam-held v e 0 tt) .1;
@@ -82,6 +81,7 @@ module _ (pointLoad : Bool) (v : List ℕ) (e : fieldsHold beamFields 0 v ≡ tr
         tension-bars = n .0;
         compression-bars = n .1;
         ratio = s;
+        service-moment = m;
       }
 
   pub accepted-beam : beamVerdict (beamAt pointLoad v) ≡ Accepted → AcceptedBeam (beamAt pointLoad v)
@@ -91,7 +91,8 @@ module _ (pointLoad : Bool) (v : List ℕ) (e : fieldsHold beamFields 0 v ≡ tr
       let r = asked-yes Consistency (beamConsistent x) _ a in
       let n = asked-yes Bars (beamBars x) _ (r .1) in
       let s = asked-yes Ratio (beamRatio x) _ (n .1) in
-      with-relations (related x (r .0)) (few-bars x (n .0)) (ratio x (s .0))
+      let m = asked-yes ServiceMoment (serviceMomentFits x) _ (s .1) in
+      with-relations (related x (r .0)) (few-bars x (n .0)) (ratio x (s .0)) (within-design x (m .0))
 
 -- ---- A column.
 

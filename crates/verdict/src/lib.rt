@@ -1,10 +1,10 @@
-// Questions 8 to 10 of a member in slots, and the questions put to a single built member.
+// The questions of a whole member in slots, and those put to a single built member.
 ghost use mathlib.Core.Path.{_≡_};
 ghost use mathlib.Core.Bool.{true};
 ghost use Rattle.field_table.specs.Fields.{beamFields, columnFields, fieldsOf};
 ghost use Rattle.field_check.specs.FieldCheck.{fieldsHold};
 ghost use Rattle.field_layout.specs.Layout.{beamAt, columnAt, meshAt};
-ghost use Rattle.verdict.specs.Verdict.{beamVerdict, columnVerdict, meshVerdict, memberVerdict, markInRange, fieldsVerdict, builtVerdict};
+ghost use Rattle.verdict.specs.Verdict.{askVerdict, beamVerdict, columnVerdict, meshVerdict, memberVerdict, markInRange, fieldsVerdict, builtVerdict};
 use consistency::beam_consistent;
 use consistency::column_consistent;
 use consistency::mesh_consistent;
@@ -22,6 +22,7 @@ use question::Verdict;
 use reinforcement::beam_bars;
 use reinforcement::beam_ratio;
 use reinforcement::column_bars;
+use service_moment::service_moment_fits;
 
 // A member that a caller builds.
 pub struct Built {
@@ -30,25 +31,27 @@ pub struct Built {
     pub fields: Slots,
 }
 
-// 8 to 10 of a beam whose fields passed question 7.
+// Question q is put before those that came to `next`: its no is the answer.
+fn ask(q: Question, holds: bool, next: Verdict) -> Verdict
+    ensures { λ r. ⌜ r ≡ askVerdict q holds next ⌝ }
+{
+    if holds { next } else { Verdict::Refused(q) }
+}
+
+// 8, 9, 10 and 14 of a beam whose fields passed question 7. All are worked out; the first no is the answer.
 fn beam_verdict(pointLoad: bool, v: &[u32; 40]) -> Verdict
     requires { ⌜ fieldsHold beamFields 0 (now v) ≡ true ⌝ }
     ensures { λ r. ⌜ r ≡ beamVerdict (beamAt pointLoad (now (v .entry))) ⌝ }
 {
     let x = beam_of(pointLoad, v);
-    if beam_consistent(x) {
-        if beam_bars(x) {
-            if beam_ratio(x) {
-                Verdict::Accepted
-            } else {
-                Verdict::Refused(Question::Ratio)
-            }
-        } else {
-            Verdict::Refused(Question::Bars)
-        }
-    } else {
-        Verdict::Refused(Question::Consistency)
-    }
+    let consistent = beam_consistent(x);
+    let bars = beam_bars(x);
+    let ratio = beam_ratio(x);
+    let service = service_moment_fits(x);
+    let after10 = ask(Question::ServiceMoment, service, Verdict::Accepted);
+    let after9 = ask(Question::Ratio, ratio, after10);
+    let after8 = ask(Question::Bars, bars, after9);
+    ask(Question::Consistency, consistent, after8)
 }
 
 // 8 and 9 of a column whose fields passed question 7.
@@ -57,29 +60,24 @@ fn column_verdict(v: &[u32; 40]) -> Verdict
     ensures { λ r. ⌜ r ≡ columnVerdict (columnAt (now (v .entry))) ⌝ }
 {
     let x = column_of(v);
-    if column_consistent(x) {
-        if column_bars(x) {
-            Verdict::Accepted
-        } else {
-            Verdict::Refused(Question::Bars)
-        }
-    } else {
-        Verdict::Refused(Question::Consistency)
-    }
+    let consistent = column_consistent(x);
+    let bars = column_bars(x);
+    let after8 = ask(Question::Bars, bars, Verdict::Accepted);
+    ask(Question::Consistency, consistent, after8)
 }
 
 // 8 of a mesh.
 fn mesh_verdict(v: &[u32; 40]) -> Verdict
     ensures { λ r. ⌜ r ≡ meshVerdict (meshAt (now (v .entry))) ⌝ }
 {
-    if mesh_consistent(mesh_of(v)) {
-        Verdict::Accepted
-    } else {
-        Verdict::Refused(Question::Consistency)
-    }
+    ask(
+        Question::Consistency,
+        mesh_consistent(mesh_of(v)),
+        Verdict::Accepted,
+    )
 }
 
-// 8 to 10 of a member whose fields passed question 7.
+// The questions of a whole member whose fields passed question 7.
 pub fn member_verdict(kind: MemberKind, v: &[u32; 40]) -> Verdict
     requires { ⌜ fieldsHold (fieldsOf kind) 0 (now v) ≡ true ⌝ }
     ensures { λ r. ⌜ r ≡ memberVerdict kind (now (v .entry)) ⌝ }
@@ -98,7 +96,7 @@ pub fn mark_in_range(mark: u32) -> bool
     in_range(1, 999999, mark)
 }
 
-// 7 to 10 of a member of this kind.
+// 7, and the questions of a whole member of this kind.
 fn fields_verdict(kind: MemberKind, v: &[u32; 40]) -> Verdict
     ensures { λ r. ⌜ r ≡ fieldsVerdict kind (now (v .entry)) ⌝ }
 {

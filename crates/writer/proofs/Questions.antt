@@ -8,7 +8,7 @@ use lib.Dec.{ltb}
 use lib.ListN.{length}
 use Rattle.quantity.proofs.Choice.{if-case}
 use Rattle.question.specs.declared.Question.{Question}
-use Rattle.question.specs.declared.Question.the-variants.{Mark, Kind, Field, Consistency, Bars, Ratio}
+use Rattle.question.specs.declared.Question.the-variants.{Mark, Kind, Field, Consistency, Bars, Ratio, ServiceMoment}
 use Rattle.question.specs.declared.Refusal.{Refusal}
 use Rattle.question.specs.declared.Verdict.{Verdict}
 use Rattle.question.specs.declared.Verdict.the-variants.{Accepted, Refused}
@@ -17,6 +17,7 @@ use Rattle.question.specs.Reading.{Reading, got, no, andThen, passed, named}
 use Rattle.member.specs.Member.{Member, beam, column, mesh}
 use Rattle.consistency.specs.Consistency.{beamConsistent, columnConsistent, meshConsistent}
 use Rattle.reinforcement.specs.Reinforcement.{beamBars, beamRatio, columnBars}
+use Rattle.service_moment.specs.ServiceMoment.{serviceMomentFits}
 use Rattle.field_table.specs.Fields.{known, kindOf, fieldsOf}
 use Rattle.field_check.specs.FieldCheck.{fieldsHold}
 use Rattle.field_layout.specs.Layout.{memberAt}
@@ -42,11 +43,14 @@ asked : (q : Question) → NotSize q → (t : Bool) {next : Verdict} → NoSize 
 asked q h true f = f
 asked q h false f = refused h
 
--- 8 to 10
+-- of a whole member
 member-questions : (m : Member) → NoSize (verdictOf m)
 unfolding beamVerdict columnVerdict meshVerdict
 member-questions (beam mark x) =
-    asked Consistency (λ n. omega arith) (beamConsistent x) (asked Bars (λ n. omega arith) (beamBars x) (asked Ratio (λ n. omega arith) (beamRatio x) accepted))
+    asked Consistency (λ n. omega arith) (beamConsistent x)
+    (asked Bars (λ n. omega arith) (beamBars x)
+    (asked Ratio (λ n. omega arith) (beamRatio x)
+    (asked ServiceMoment (λ n. omega arith) (serviceMomentFits x) accepted)))
 member-questions (column mark x) = asked Consistency (λ n. omega arith) (columnConsistent x) (asked Bars (λ n. omega arith) (columnBars x) accepted)
 member-questions (mesh mark x) = asked Consistency (λ n. omega arith) (meshConsistent x) accepted
 

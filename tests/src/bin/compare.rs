@@ -3,7 +3,9 @@
 use std::process::ExitCode;
 use std::time::Instant;
 
-use koxaltes_tests::branches::{required, required_of_point_loads, required_of_writer, Tally};
+use koxaltes_tests::branches::{
+    required, required_of_moments, required_of_point_loads, required_of_writer, Tally,
+};
 use koxaltes_tests::comparison::{Answers, Checker, Comparison, Library};
 use koxaltes_tests::make::Random;
 use koxaltes_tests::runs;
@@ -44,14 +46,15 @@ fn print_cases(title: &str, tally: &Tally) {
 fn gaps<C: Checker>(comparison: &Comparison<C>) -> Vec<String> {
     let mut missing = comparison.tally.missing(required());
     missing.extend(comparison.tally.missing(required_of_point_loads()));
+    missing.extend(comparison.tally.missing(required_of_moments()));
     missing.extend(comparison.writer_tally.missing(required_of_writer()));
     let mut gaps: Vec<String> = missing.iter().map(|case| format!("case {case:?}")).collect();
     let lists = [
-        ("schedules", &comparison.schedule_answers, (0..=12).collect::<Vec<usize>>()),
-        ("built members", &comparison.built_answers, vec![0, 5, 6, 7, 8, 9, 10, 12]),
-        ("utilizations", &comparison.utilization_answers, vec![0, 5, 6, 7, 8, 9, 10]),
+        ("schedules", &comparison.schedule_answers, (0..=12).chain([14]).collect()),
+        ("built members", &comparison.built_answers, vec![0, 5, 6, 7, 8, 9, 10, 12, 14]),
+        ("utilizations", &comparison.utilization_answers, vec![0, 5, 6, 7, 8, 9, 10, 14]),
         ("lists", &comparison.totals_answers, vec![0, 7]),
-        ("writer", &comparison.writer_answers, vec![0, 4, 5, 6, 7, 8, 9, 10, 13]),
+        ("writer", &comparison.writer_answers, vec![0, 4, 5, 6, 7, 8, 9, 10, 13, 14]),
     ];
     for (name, answers, questions) in lists {
         let few = questions.into_iter().filter(|&question| answers[question] < 20);
@@ -77,7 +80,8 @@ fn main() -> ExitCode {
         println!("not reached: {gaps:#?}");
         return ExitCode::FAILURE;
     }
-    let cases = [required(), required_of_point_loads(), required_of_writer()];
+    let cases =
+        [required(), required_of_point_loads(), required_of_moments(), required_of_writer()];
     let cases: usize = cases.iter().map(Vec::len).sum();
     println!("{cases} cases required, all reached; {:.1?}", start.elapsed());
     println!(

@@ -1,6 +1,6 @@
 //! Which cases of point-loaded beams were reached (document 02, wish 3).
 
-use super::{row, Case, Tally};
+use super::{row, Case, Entry, Tally};
 use crate::make::hunts::turns_on_u;
 use crate::make::record::place::beam::{LOAD, SPAN};
 use crate::make::Record;
@@ -18,6 +18,8 @@ const FREE: &str = "kind 4 a/h0 between its limits, concrete";
 const ONE_ROUNDING: &str = "kind 4 concrete part by one rounding";
 const MOMENT: &str = "kind 4 4.2.2 M (0 at, 1 one above)";
 const MOMENT_SHALLOW: &str = "kind 4 4.2.3 M (0 at, 1 one above)";
+const STRESS: &str = "kind 4 4.4.1 Mq (0 highest, 1 one above)";
+const SERVICE_AT: &str = "kind 4 Mq at M";
 const TABLE_AT: &str = "kind 4 V (0 at 0.7 ft b h0, 1 one above)";
 const SPACING: &str = "kind 4 5.5.6s not by the part, h";
 const SPACING_AT: &str = "kind 4 5.5.6s not by V at part, h";
@@ -37,14 +39,6 @@ const ACCEPTED: &str = "kind 4 accepted, a (10 entry + edge)";
 const UNKNOWN: &str = "kind 5 refused, entry";
 const NO_EFFECT: &str = "kind 1, number for a (10 entry + place)";
 const TWINS: &str = "kinds 1 and 4 with a = 0";
-
-/// How a member is given: in a file, built, as words.
-#[derive(Clone, Copy, PartialEq)]
-pub enum Entry {
-    File = 1,
-    Built = 2,
-    Words = 3,
-}
 
 /// Where a stands: 0 at the support; 15 and 30 at 1.5·h0 and 3·h0; 14, 16, 29 and 31 next to them; 10,
 /// 20 and 40 below, between and above.
@@ -100,6 +94,7 @@ impl Tally {
         if let Some(&capacity) = figures.first() {
             let about = if beam.is_shallow() { MOMENT_SHALLOW } else { MOMENT };
             self.at_or_above(about, capacity, beam.moment);
+            self.add_if(beam.moment_quasi == beam.moment, SERVICE_AT, 0);
         }
         if let Some(&capacity) = figures.get(1) {
             self.add_if(beam.shear == capacity, SHEAR_AT, place);
@@ -109,6 +104,9 @@ impl Tally {
             if capacity >= beam.shear {
                 self.point_load_links(beam, outcome);
             }
+        }
+        if figures.len() > 2 || outcome.failed == Some(Check::SteelStress) {
+            self.at_or_above(STRESS, beam.stress_limit() / 1_000_000, beam.moment_quasi);
         }
         if let Some(&width) = figures.get(2) {
             self.at_or_above(WIDTH, beam.width_limit(), width);
@@ -237,7 +235,7 @@ pub fn point_load_cases() -> Vec<Case> {
         put(about, &[0, 1]);
     }
     put(SPACING, &[300, 500, 800, 801]);
-    for about in [AT_MOST, ONE_ROUNDING, TABLE_AT, RATIO, ROUNDED_U] {
+    for about in [AT_MOST, ONE_ROUNDING, SERVICE_AT, TABLE_AT, RATIO, ROUNDED_U] {
         put(about, &[0]);
     }
     cases
@@ -254,6 +252,7 @@ pub fn required_of_point_loads() -> Vec<Case> {
     put(SPACING_AT, &[300, 500, 800, 801]);
     put(SPACING_ABOVE, &[300, 500, 800, 801]);
     put(RATIO_AT, &[0, 1]);
+    put(STRESS, &[0, 1]);
     put_entry_cases(&mut put);
     cases
 }
@@ -263,7 +262,7 @@ fn put_entry_cases(put: &mut impl FnMut(&'static str, &[u64])) {
     put(IN_FILE, &[2, 3, 6, 7, 8, 11]);
     put(BY_ONE, &[71, 72, 73, 81, 82, 83]);
     put(BY_MORE, &[71, 72, 73, 81, 82, 83]);
-    put(REFUSED, &[71, 72, 73, 81, 82, 83, 91, 92, 93, 101, 102, 103]);
+    put(REFUSED, &[71, 72, 73, 81, 82, 83, 91, 92, 93, 101, 102, 103, 141, 142, 143]);
     put(ACCEPTED, &[10, 11, 12, 20, 21, 22, 30, 31, 32]);
     put(UNKNOWN, &[1, 2, 3]);
     put(NO_EFFECT, &[20, 21, 22, 30, 31, 32]);

@@ -215,11 +215,11 @@ pub fn required_of_writer() -> Vec<Case> {
     put(ROOM, &[0, 1, 2, 3]);
     put(PROMISED, &COUNTS);
     put(ONE_LESS, &COUNTS);
-    put(NO_ROOM, &[4, 5, 6, 7, 8, 9, 10]);
+    put(NO_ROOM, &[4, 5, 6, 7, 8, 9, 10, 14]);
     put(TOO_MANY, &[1, 2]);
     put(MARK_REFUSED, &[0, 1, 2, 3]);
     put(ABOVE_FOUR, &[11, 12, 21, 41, 42]);
-    put(POINT_REFUSED, &[5, 7, 8, 9, 10]);
+    put(POINT_REFUSED, &[5, 7, 8, 9, 10, 14]);
     put(UNKNOWN, &[0, 5]);
     put(FIRST, &QUESTIONS.map(u64::from));
     put(LATER, &QUESTIONS.map(u64::from));

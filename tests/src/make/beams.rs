@@ -109,26 +109,28 @@ fn random_details(random: &Random, record: &mut Record) {
     record.fields[SPAN] = random_span(random, h - cover_tension) as u32;
     record.fields[ENVIRONMENT] = random.within(1, 3) as u32;
     record.fields[STRICT] = random.below(2) as u32;
+    record.fields[MOMENT] = 1;
     record.fields[MOMENT_QUASI] = 1;
 }
 
-/// Loads as parts of what the section carries.
+/// Loads as parts of what the section carries. Where Mq is above M, M is raised to it, but for a few.
 fn random_loads(random: &Random, record: &mut Record, beam: &Beam) {
     let part = |figure: u64| {
         let percent = if random.one_in(8) { random.within(90, 110) } else { random.within(0, 99) };
         (figure * percent / 100).min(100_000_000) as u32
     };
-    if beam.is_within_depth_limit() {
-        record.fields[MOMENT] = part(beam.moment_capacity());
-    }
+    let within = beam.is_within_depth_limit();
+    let moment = if within { part(beam.moment_capacity()) } else { 0 };
     record.fields[SHEAR] = part(beam.shear_capacity());
-    let yielding = 87 * beam.steel.fyk * beam.h0() * beam.tension.area / 1_000_000;
+    let yielding = beam.stress_limit() / 1_000_000;
     let percent = match random.below(8) {
         0 => random.within(80, 105),
         1 | 2 => random.within(1, 20),
         _ => random.within(10, 60),
     };
-    record.fields[MOMENT_QUASI] = (yielding * percent / 100).clamp(1, 100_000_000) as u32;
+    let quasi = (yielding * percent / 100).clamp(1, 100_000_000) as u32;
+    record.fields[MOMENT] = if random.one_in(16) { moment } else { moment.max(quasi) };
+    record.fields[MOMENT_QUASI] = quasi;
 }
 
 /// A beam that most often passes the questions.
@@ -188,7 +190,12 @@ pub fn hugging_beams(record: &Record) -> Vec<Record> {
     if !beam.is_within_depth_limit() {
         return records;
     }
-    for (field, value) in [(MOMENT, beam.moment_capacity()), (SHEAR, beam.shear_capacity())] {
+    let edges = [
+        (MOMENT, beam.moment_capacity()),
+        (SHEAR, beam.shear_capacity()),
+        (MOMENT_QUASI, beam.moment),
+    ];
+    for (field, value) in edges {
         records.extend(around(value).map(|value| record.with(field, value)));
     }
     for shear in around(beam.concrete_shear() / 1000) {
@@ -196,14 +203,16 @@ pub fn hugging_beams(record: &Record) -> Vec<Record> {
         let limit = Beam { shear, ..beam }.spacing_limit();
         records.extend(around(limit).map(|spacing| loaded.with(SPACING, spacing)));
     }
-    records.extend(hugging_service(record));
+    records.extend(hugging_service(record, beam.moment_capacity()));
     records
 }
 
-/// The beam without M and V, with Mq next to each of its limits and to ψ = 0.2 and 1.
-fn hugging_service(record: &Record) -> Vec<Record> {
+/// The beam without V and with M at its capacity, with Mq next to each of its limits and to ψ = 0.2 and 1. An
+/// Mq above the capacity is left out: question 14 would refuse it.
+fn hugging_service(record: &Record, capacity: u64) -> Vec<Record> {
     let spacing = u64::from(record.fields[SPACING]).min(200);
-    let record = record.with(MOMENT, 0).with(SHEAR, 0).with(SPACING, spacing);
+    let record = record.with(SHEAR, 0).with(SPACING, spacing);
+    let record = record.with(MOMENT, capacity).with(MOMENT_QUASI, 1);
     let Some(beam) = as_beam(&record) else {
         return Vec::new();
     };
@@ -216,7 +225,7 @@ fn hugging_service(record: &Record) -> Vec<Record> {
     for stress in strain_factor_edges(&beam) {
         quasi.push(87 * beam.h0() * beam.tension.area * stress / 10_000_000_000);
     }
-    let near = quasi.into_iter().flat_map(around);
+    let near = quasi.into_iter().flat_map(around).filter(|value| *value <= capacity);
     near.map(|value| record.with(MOMENT_QUASI, value)).collect()
 }
 

@@ -1,5 +1,6 @@
-//! Members with one field at or just outside its range, and at the edges of questions 8 and 9.
+//! Members with one field at or just outside its range, and at the edges of questions 8, 9 and 14.
 
+use super::moments;
 use super::record::place::{beam, column, mesh};
 use super::record::Record;
 use crate::model::built::Group;
@@ -208,7 +209,7 @@ fn bar_counts(record: &Record) -> Vec<Record> {
     records
 }
 
-/// The edges of questions 8 and 9 around an accepted member.
+/// The edges of questions 8, 9 and 14 around an accepted member.
 pub fn question_edges(record: &Record) -> Vec<Record> {
     let pairs = |first, second, values: &[(u32, u32)]| {
         let changed = values.iter().map(|&(x, y)| with_all(record, &[(first, x), (second, y)]));
@@ -222,5 +223,8 @@ pub fn question_edges(record: &Record) -> Vec<Record> {
         _ => pairs(mesh::CROSS, mesh::APART, &[(0, 0), (0, 1), (1, 0), (1, 1)]),
     };
     records.extend(bar_counts(record));
+    if record.is_beam() {
+        records.extend(moments::around_design(record).into_iter().map(|(edge, _)| edge));
+    }
     records
 }

@@ -26,10 +26,10 @@ fn single_groups() -> impl Iterator<Item = Vec<Group>> {
         .flat_map(|diameter| (1..=20).map(move |bars| vec![Group { diameter, bars }]))
 }
 
-/// An unloaded beam with close links.
+/// A beam with the least moments, no V and close links.
 fn plain_beam(b: u64, h: u64, grade: u32, steel: u32, tension: &[Group]) -> Record {
     let head = [b as u32, h as u32, b as u32, 0, 40, 0, grade, steel];
-    let tail = [12, 4, 100, 2, 25, 2000, 0, 1, 0, 1, 0];
+    let tail = [12, 4, 100, 2, 25, 2000, 1, 1, 0, 1, 0];
     let mut record = Record::beam(1, head, &[], &[], tail);
     record.first = tension.to_vec();
     record.count_groups();
@@ -135,21 +135,46 @@ fn link_ratio(records: &mut Vec<Record>) {
     }
 }
 
-/// 1000·V = 7·ft·b·h0, and 4.4.1 at equality: 10^6·Mq = 87·fyk·h0·S.
-fn loads(records: &mut Vec<Record>) {
+/// Webs, b and h0.
+const WEBS: [(u64, u64); 4] = [(250, 1000), (400, 500), (200, 250), (300, 750)];
+
+/// 1000·V = 7·ft·b·h0.
+fn table_turns(records: &mut Vec<Record>) {
     for (grade, code) in GRADES.into_iter().flat_map(|grade| [(grade, 1), (grade, 2)]) {
         let ft = tables::concrete(u64::from(grade)).unwrap().ft;
-        let fyk = tables::steel(code).unwrap().fyk;
-        for (b, h0) in [(250, 1000), (400, 500), (200, 250), (300, 750)] {
+        for (b, h0) in WEBS {
             for (diameter, bars) in [(16, 5), (20, 5), (10, 15), (12, 10), (25, 10)] {
                 let tension = [Group { diameter, bars }];
                 let mut record = plain_beam(b, h0 + 40, grade, code as u32, &tension);
                 record.fields[beam::SHEAR] = (7 * ft * b * h0 / 1000) as u32;
-                spread(record.clone(), beam::SHEAR, records);
-                let quasi = 87 * fyk * h0 * total(&tension) / 1_000_000;
-                record.fields[beam::MOMENT_QUASI] = quasi as u32;
-                spread(record, beam::MOMENT_QUASI, records);
+                spread(record, beam::SHEAR, records);
             }
+        }
+    }
+}
+
+/// The beam with M at its capacity and Mq at 4.4.1's limit, next to it and at M, where the capacity is above.
+fn at_stress_limit(record: &Record, records: &mut Vec<Record>) {
+    let Some(beam) = as_beam(record) else { return };
+    let quasi = beam.stress_limit() / 1_000_000;
+    if let Some(&capacity) = beam.check().figures().first().filter(|capacity| quasi < **capacity) {
+        let record = record.with(beam::MOMENT, capacity).with(beam::MOMENT_QUASI, quasi);
+        records.push(record.with(beam::MOMENT_QUASI, capacity));
+        spread(record, beam::MOMENT_QUASI, records);
+    }
+}
+
+/// 4.4.1 at and next to equality, 10^6·Mq = 87·fyk·h0·S. Only steel of code 1, whose fy is more than 0.87·fyk,
+/// can have a capacity above: little of it, or with compression bars close to their face.
+fn steel_stress(records: &mut Vec<Record>) {
+    for (b, h0) in WEBS {
+        for (tension, grade) in single_groups().flat_map(|list| GRADES.map(|g| (list.clone(), g))) {
+            let mut record = plain_beam(b, h0 + 40, grade, 1, &tension);
+            at_stress_limit(&record, records);
+            record.fields[beam::A2] = 20;
+            record.second = tension;
+            record.count_groups();
+            at_stress_limit(&record, records);
         }
     }
 }
@@ -192,7 +217,8 @@ pub fn equalities() -> Vec<Record> {
     depth_limit(&mut records);
     shallow_depth(&mut records);
     link_ratio(&mut records);
-    loads(&mut records);
+    table_turns(&mut records);
+    steel_stress(&mut records);
     column_steel(&mut records);
     maximum_tension(&mut records);
     records

@@ -1,6 +1,7 @@
 //! Members that are refused by a question of one's choice.
 
 use super::beams::total;
+use super::moments::{moments, with_moments, MOST};
 use super::record::place::{beam, column, mesh};
 use super::record::Record;
 use super::words::{of_record, KIND};
@@ -8,7 +9,7 @@ use super::Random;
 use crate::model::built::Group;
 
 /// The questions put to a member.
-pub const QUESTIONS: [u32; 6] = [5, 6, 7, 8, 9, 10];
+pub const QUESTIONS: [u32; 7] = [5, 6, 7, 8, 9, 10, 14];
 
 /// Fields that no other flaw changes, out of their range; or a, which is then above the span, too.
 fn out_of_range(kind: u32, random: &Random) -> (usize, u32) {
@@ -67,6 +68,18 @@ fn effective_area(record: &Record) -> u64 {
     u64::from(record.fields[beam::B]) * u64::from(depth)
 }
 
+/// Mq above M: by one, with M = 0, or the two exchanged.
+fn service_above(record: &mut Record, random: &Random) {
+    let (design, service) = moments(record);
+    let (design, service) = match random.below(4) {
+        0 => (0, service),
+        1 if service < design => (service, design),
+        2 if design < MOST => (design, design + 1),
+        _ => (service - 1, service),
+    };
+    *record = with_moments(record, design, service);
+}
+
 /// Puts a no to the question into a member, if its kind can have one. Flaws of later questions that it
 /// already has stay.
 pub fn flaw(record: &mut Record, question: u32, random: &Random) -> bool {
@@ -85,9 +98,10 @@ pub fn flaw(record: &mut Record, question: u32, random: &Random) -> bool {
         (10, 1 | 4) if 2 * effective_area(record) < 5 * total(&THICK) => {
             record.first = THICK.to_vec();
         }
+        (14, 1 | 4) => service_above(record, random),
         _ => return false,
     }
-    if question > 8 {
+    if matches!(question, 9 | 10) {
         record.count_groups();
     }
     true

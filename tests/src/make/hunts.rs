@@ -17,9 +17,9 @@ pub fn turns_on_u(beam: &Beam) -> bool {
     lower != beam.deflection(&cracked)
 }
 
-/// Tries values of Mq at which the deflection is reached.
+/// Tries values of Mq, up to M, at which the deflection is reached.
 fn hunt(record: &Record, beam: &Beam, random: &Random, found: &mut Vec<Record>) {
-    let most = largest_quasi(beam, &[Check::SteelStress, Check::CrackWidth]);
+    let most = largest_quasi(beam, &[Check::SteelStress, Check::CrackWidth]).min(beam.moment);
     for _ in 0..20_000 {
         let moment_quasi = random.within(1, most);
         if turns_on_u(&Beam { moment_quasi, ..*beam }) {
@@ -33,11 +33,12 @@ fn hunt(record: &Record, beam: &Beam, random: &Random, found: &mut Vec<Record>) 
 pub fn hunts(random: &Random, count: usize) -> Vec<Record> {
     let mut found = Vec::new();
     while found.len() < count {
-        let record = random_beam(random).with(MOMENT, 0).with(SHEAR, 0).with(SPACING, 150);
+        let record = random_beam(random).with(MOMENT, 1).with(SHEAR, 0).with(SPACING, 150);
         let record = record.with(MOMENT_QUASI, 1);
         let Some(beam) = as_beam(&record) else { continue };
-        if beam.check().figures().len() == 4 {
-            hunt(&record, &beam, random, &mut found);
+        if let [capacity, _, _, _] = *beam.check().figures() {
+            let loaded = Beam { moment: capacity, ..beam };
+            hunt(&record.with(MOMENT, capacity), &loaded, random, &mut found);
         }
     }
     found

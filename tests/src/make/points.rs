@@ -121,7 +121,7 @@ pub fn link_table() -> Vec<Record> {
     for h in [300, 500, 800, 1000] {
         for (link, spacing) in [6, 12].into_iter().flat_map(|link| SPACINGS.map(|s| (link, s))) {
             let head = [250, h, 250, 0, 40, 0, 30, 1];
-            let tail = [link, 2, spacing, 1, 30, 6000, 0, 1, 0, 1, 0];
+            let tail = [link, 2, spacing, 1, 30, 6000, 1, 1, 0, 1, 0];
             let uniform = Record::beam(1, head, &[(20, 3)], &[], tail);
             let (h0, span) = depth_and_span(&uniform);
             for distance in [8 * h0 / 5, span] {
@@ -143,7 +143,7 @@ fn whole_parts() -> Vec<Record> {
     for (b, h0) in [(240, 500), (300, 400), (200, 600), (400, 900)] {
         for grade in GRADES {
             let head = [b, h0 + 40, b, 0, 40, 0, grade, 1];
-            let tail = [8, 2, 100, 2, 30, 6000, 0, 1, 0, 1, 0];
+            let tail = [8, 2, 100, 2, 30, 6000, 1, 1, 0, 1, 0];
             let beam = Record::beam(1, head, &[(25, 4)], &[], tail);
             let loaded = around(2 * u64::from(h0)).map(|distance| beam.point_loaded(distance));
             records.extend(loaded.iter().flat_map(hugging_shear));

@@ -232,10 +232,15 @@ pub fn encode(records: &[Record]) -> Vec<u8> {
 
 /// The members of an accepted schedule.
 pub fn decode(bytes: &[u8]) -> Vec<Record> {
+    decode_first(bytes, u32::MAX)
+}
+
+/// The first members of a schedule, at most this many, whose numbers are all there.
+pub fn decode_first(bytes: &[u8], most: u32) -> Vec<Record> {
     let numbers = bytes.split_inclusive(|byte| *byte < 0x80);
     let mut numbers = numbers.map(|groups| {
         groups.iter().rev().fold(0, |value, group| value << 7 | u32::from(group & 0x7f))
     });
-    let count = numbers.next().expect("a count");
+    let count = numbers.next().expect("a count").min(most);
     (0..count).map(|_| Record::next(&mut numbers)).collect()
 }

@@ -8,7 +8,8 @@ use std::collections::{BTreeMap, BTreeSet};
 use super::base::{hugging_members, random_member};
 use super::edges::question_edges;
 use super::{
-    damage, encode, equalities, hunts, points, random_point_loaded, renumber, Random, Record,
+    damage, encode, equalities, hunts, moments, points, random_point_loaded, renumber, Random,
+    Record,
 };
 use crate::branches::{point_load_cases, required, Case, Tally};
 use crate::model::report::report;
@@ -155,14 +156,15 @@ fn refused(members: &[Record], random: &Random) -> Vec<Vec<u8>> {
     schedules
 }
 
-/// Each member alone, all of them, none, and refused ones, also for what kind 4 adds.
+/// Each member alone, all of them, none, and refused ones, also for what kind 4 and question 14 add.
 fn schedules(members: &[Record], random: &Random) -> Vec<Vec<u8>> {
     let mut schedules: Vec<Vec<u8>> =
         members.iter().map(|one| encode(std::slice::from_ref(one))).collect();
     schedules.push(encode(members));
     schedules.push(vec![0]);
     schedules.extend(refused(members, random));
-    schedules.extend(points::refused_files().into_iter().map(|(file, _)| file));
+    let files = [points::refused_files(), moments::refused_files()].concat();
+    schedules.extend(files.into_iter().map(|(file, _)| file));
     schedules
 }
 

@@ -12,8 +12,10 @@ pub const GROUPS: usize = 4;
 /// A member's first words.
 pub const MARK: usize = 0;
 pub const KIND: usize = 1;
-/// The words of l0 and of a in a point-loaded beam; in kind 1 the second has no effect.
+/// The words of l0, M and Mq in a beam, and of a in a point-loaded one; in kind 1 the last has no effect.
 pub const SPAN: usize = 2 + 31;
+pub const MOMENT: usize = 2 + 32;
+pub const MOMENT_QUASI: usize = 2 + 33;
 pub const LOAD: usize = 2 + 37;
 
 /// The words that count a kind's lists; eight words for groups follow each.

@@ -47,6 +47,7 @@ pub struct Cracked {
 }
 
 impl Beam {
+    /// Reads the fields (7) and puts 8 to 10; then 14 (document 02, wish 5).
     pub fn read(numbers: &mut impl Numbers, point_loaded: bool) -> Result<Self, No> {
         let beam = Beam {
             b: numbers.within(100, 1000)?,
@@ -81,6 +82,8 @@ impl Beam {
             Err(9)
         } else if 5 * beam.tension.area > 2 * beam.b * beam.h0() {
             Err(10)
+        } else if beam.moment_quasi > beam.moment {
+            Err(14)
         } else {
             Ok(beam)
         }
@@ -233,10 +236,14 @@ impl Beam {
                 >= 24 * self.concrete.ft * self.b * self.spacing
     }
 
+    /// What 4.4.1 holds 10^6·Mq against.
+    pub fn stress_limit(&self) -> u64 {
+        87 * self.steel.fyk * self.h0() * self.tension.area
+    }
+
     /// 4.4.1: steel stress at most fyk.
     pub fn is_within_stress_limit(&self) -> bool {
-        let limit = 87 * self.steel.fyk * self.h0() * self.tension.area;
-        1_000_000 * self.moment_quasi <= limit
+        1_000_000 * self.moment_quasi <= self.stress_limit()
     }
 
     /// σ and q of 4.4.2.

@@ -63,7 +63,7 @@ pub(super) fn named(list: &[Group], count: usize) -> Result<Bars, No> {
     Ok(bars)
 }
 
-/// Puts questions 5 (range only) to 10; every refusal names member 1.
+/// Puts questions 5 (range only) to 10 and 14; every refusal names member 1.
 pub fn read(built: &Built, first: &[Group], second: &[Group]) -> Result<Member, Refusal> {
     let mut lent = Lent { built, taken: 0, lists: [first, second], lists_taken: 0 };
     Member::read(&mut lent, 0).map_err(|question| Refusal { question, member: 1 })

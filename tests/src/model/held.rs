@@ -44,8 +44,8 @@ impl Numbers for Slots<'_> {
     }
 }
 
-/// Reads `length` lent words, of which these can be read: questions 4 to 10. Words left over after
-/// the last whole member need not be there, and where there are too many members none need be.
+/// Reads `length` lent words, of which these can be read: questions 4 to 10 and 14. Words left over
+/// after the last whole member need not be there, and where there are too many members none need be.
 pub fn read(words: &[u32], length: usize) -> Result<Vec<Held<'_>>, Refusal> {
     let count = length / WORDS;
     if count as u64 > MOST_MEMBERS {

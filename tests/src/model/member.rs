@@ -1,4 +1,4 @@
-//! Members, and the questions 5 to 10 that are put to one.
+//! Members, and the questions 5 to 10 and 14 that are put to one.
 
 use super::beam::Beam;
 use super::column::Column;
@@ -105,7 +105,7 @@ pub struct Member {
 }
 
 impl Member {
-    /// Reads mark, kind and fields; the mark is to be above the one before (5 to 10).
+    /// Reads mark, kind and fields; the mark is to be above the one before (5 to 10, 14).
     pub fn read(numbers: &mut impl Numbers, before: u32) -> Result<Self, No> {
         let mark = numbers.number()?;
         if mark > 999_999 || mark <= u64::from(before) {

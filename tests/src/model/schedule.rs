@@ -1,4 +1,4 @@
-//! Reading a schedule: questions 1 to 11.
+//! Reading a schedule: questions 1 to 11 and 14.
 
 use super::member::{Bars, Member, No, Numbers, MOST_BARS, MOST_GROUPS};
 

@@ -1,7 +1,7 @@
 //! What point-loaded beams are compared on (document 02, wish 3).
 
-use super::{together, Outcome};
-use crate::branches::Entry;
+use super::{refused, together, Outcome};
+use crate::branches::{Entry, ENTRIES};
 use crate::comparison::{Checker, Comparison};
 use crate::make::flaws::flaw;
 use crate::make::record::place::beam::{LOAD, SPAN};
@@ -9,7 +9,6 @@ use crate::make::words::{of_record, LOAD as LOAD_WORD};
 use crate::make::{encode, points, random_beam, random_point_loaded, Random, Record};
 use crate::model::built;
 use crate::model::held::{self, WORDS};
-use crate::model::schedule::{self, Refusal};
 
 /// Beams of every sort; `count` of them at random.
 pub fn point_loads<C: Checker>(
@@ -47,18 +46,6 @@ fn members<C: Checker>(
     together(comparison, random, records)
 }
 
-/// The question that refuses a record in each entry, or 0: in a file, built, as words.
-fn questions(record: &Record, words: &[u32]) -> [(Entry, u32); 3] {
-    let file = encode(std::slice::from_ref(record));
-    let question = |refusal: Option<Refusal>| refusal.map_or(0, |refusal| refusal.question);
-    let built = built::read(&record.built(), &record.first, &record.second);
-    [
-        (Entry::File, question(schedule::read(&file).err())),
-        (Entry::Built, question(built.err())),
-        (Entry::Words, question(held::read(words, words.len()).err())),
-    ]
-}
-
 /// A member that every entry is to refuse by this question, or to accept, where it is 0.
 fn answered<C: Checker>(
     comparison: &mut Comparison<C>,
@@ -66,15 +53,9 @@ fn answered<C: Checker>(
     record: &Record,
     expected: u32,
 ) -> Outcome {
-    let words = of_record(record, random);
-    comparison.built(record)?;
-    comparison.words(&words)?;
-    comparison.records(std::slice::from_ref(record))?;
-    for (entry, question) in questions(record, &words) {
-        if question != expected {
-            return Err(format!("{record:?}\nmodel: answer {question}, not {expected}"));
-        }
-        comparison.tally.note_answer(record, entry, question);
+    super::answered(comparison, random, record, expected)?;
+    for entry in ENTRIES {
+        comparison.tally.note_answer(record, entry, expected);
     }
     Ok(())
 }
@@ -85,7 +66,7 @@ fn flawed<C: Checker>(comparison: &mut Comparison<C>, random: &Random) -> Outcom
     if base.read().is_none() {
         return Ok(());
     }
-    for question in [7, 8, 9, 10] {
+    for question in [7, 8, 9, 10, 14] {
         let mut record = base.clone();
         if flaw(&mut record, question, random) {
             answered(comparison, random, &record, question)?;
@@ -97,11 +78,7 @@ fn flawed<C: Checker>(comparison: &mut Comparison<C>, random: &Random) -> Outcom
 /// Files that end before a, in it or after it.
 fn refused_files<C: Checker>(comparison: &mut Comparison<C>) -> Outcome {
     for (file, expected) in points::refused_files() {
-        comparison.schedule(&file)?;
-        let answer = schedule::read(&file);
-        if answer.as_ref().err() != Some(&expected) {
-            return Err(format!("file {file:?}\nmodel: {answer:?}, not {expected:?}"));
-        }
+        refused(comparison, &file, expected)?;
         comparison.tally.note_refused_file(expected.question);
     }
     Ok(())

@@ -1,9 +1,8 @@
 -- `reinforcement::beam_ratio` meets its contract.
-use Rattle.reinforcement.proofs.Reinforcement.{few-bars}
 use Rattle.member.specs.Member.{beamOf}
 use Prim.Native.Nat.{_*_}
 use native.Mathlib.Nat.{mul-le-mul}
-use Rattle.bars.proofs.Groups.{area-most-by-bars}
+use Rattle.bars.proofs.Groups.{bars-most, area-most-by-bars}
 use native.Mathlib.Omega.{arith}
 use Rattle.reinforcement.specs.Reinforcement.{beamRatio}
 use borrow.Author.Needs.{needs}
@@ -14,7 +13,7 @@ mul-result : tie.Need-mul-result
 mul-result c =
     let s = c .before .before .before in
     let x = beamOf (s .args .x) in
-    omega (arith, c .steel-area .ensures, area-most-by-bars (x .tension) (s .pre .0 .tension), few-bars x (s .pre .1) .0)
+    omega (arith, c .steel-area .ensures, area-most-by-bars (x .tension) (s .pre .tension), bars-most (x .tension) (s .pre .tension), s .pre .tension-most)
 
 mul-result-3 : tie.Need-mul-result-3
 mul-result-3 c = omega (arith, mul-le-mul {n₁ = 2 * c .before .before .before .before .in-millimetres .result} {m₁ = c .in-millimetres2 .result} {n₂ = 2000} {m₂ = 2000} (search needs) (search needs))

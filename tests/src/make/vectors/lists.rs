@@ -41,14 +41,14 @@ fn refused_by(question: u32, kind: u32, members: &[Record], random: &Random) -> 
     })
 }
 
-/// A list for each question that a kind can be refused by. Columns and meshes have no question 10,
-/// meshes no question 9; question 4 takes more bytes than a vector's length can say.
+/// A list for each question that a kind can be refused by. Columns and meshes have no questions 10 and
+/// 14, meshes no question 9; question 4 takes more bytes than a vector's length can say.
 fn refused(members: &[Record], random: &Random) -> Vec<Vec<u32>> {
     let mut lists = Vec::new();
     for question in QUESTIONS {
         let kinds: &[u32] = match question {
             9 => &[1, 2, 4],
-            10 => &[1, 4],
+            10 | 14 => &[1, 4],
             _ => &[1, 2, 3, 4],
         };
         for kind in kinds {
