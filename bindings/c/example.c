@@ -1,6 +1,7 @@
 /* Document 01's beam 1 built by a caller: its line, its utilizations and the totals of its bars. Then the schedule on standard
  * input, reported. Then document 01's three members held as records: written, compared with standard input, reported; and
- * what the writer refuses. Then beam 1 as a point-loaded beam, built and held. */
+ * what the writer refuses. Then beam 1 as a point-loaded beam, built and held; with
+ * Mq up to M and above; with V above what its web bears. */
 #include <inttypes.h>
 #include <stdio.h>
 #include <string.h>
@@ -168,6 +169,17 @@ static void show_moments(uint8_t *out, size_t out_length) {
     print(koxaltes_write_records(&r, 1, file, sizeof file), file);
 }
 
+/* The web crushes: a moment, no shear, neither in the line nor among the utilizations. */
+static void show_web(uint8_t *out, size_t out_length) {
+    koxaltes_member m = beam();
+    m.fields[KOXALTES_BEAM_V] = 411126;
+    print(koxaltes_member_report(m, tension, 1, none, 0, out, out_length), out);
+    koxaltes_utilization_answer a = koxaltes_member_utilization(m, tension, 1, none, 0);
+    if (a.question == KOXALTES_ACCEPTED && a.utilization.first_reached && !a.utilization.second_reached) {
+        printf("moment %.3f alone\n", a.utilization.first);
+    }
+}
+
 int main(void) {
     /* one byte more than a schedule may have, so that a longer one is refused and not cut */
     static uint8_t schedule[KOXALTES_LONGEST_SCHEDULE + 1];
@@ -178,5 +190,6 @@ int main(void) {
     show_records(schedule, length, out, sizeof out);
     show_point_load(out, sizeof out);
     show_moments(out, sizeof out);
+    show_web(out, sizeof out);
     return 0;
 }

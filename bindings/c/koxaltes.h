@@ -25,9 +25,9 @@
  * A program meets an added question or word as a number or word that it does not know, and must take it for a refusal or for
  * a failed check. An added kind is accepted where it was refused as unknown, and a limit may grow with it. The archive does
  * not hold its version: use the header and the archive of one checkout. */
-#define KOXALTES_VERSION "0.4.0"
+#define KOXALTES_VERSION "0.5.0"
 #define KOXALTES_VERSION_MAJOR 0
-#define KOXALTES_VERSION_MINOR 4
+#define KOXALTES_VERSION_MINOR 5
 #define KOXALTES_VERSION_PATCH 0
 
 #ifdef __cplusplus
@@ -226,7 +226,8 @@ typedef struct {
 
 /* Beams: moment, shear, width, deflection; columns: axial force first; meshes: anchorage, lap. Each is the double nearest to
  * demand over figure (widths, deflections, lengths: figure over limit), at most 1.0 exactly where its check holds.
- * A flag is false, and its value 0.0, where the check was not reached or the divisor is 0. */
+ * A flag is false, and its value 0.0, where the check was not reached or the divisor is 0. That of a beam's shear is true only
+ * where the web does not crush (6.3.1v). */
 typedef struct {
     double first;
     double second;

@@ -2,6 +2,7 @@
 
 mod moments;
 mod points;
+mod webs;
 mod written;
 
 use std::collections::BTreeMap;
@@ -16,6 +17,7 @@ use crate::model::outcome::{Check, Outcome};
 
 pub use moments::required_of_moments;
 pub use points::{point_load_cases, required_of_point_loads};
+pub use webs::required_of_webs;
 pub use written::required_of_writer;
 
 /// A case: what it is about, and which of its variants.
@@ -76,10 +78,13 @@ impl Tally {
             None => self.add("OK", member.kind()),
         }
         match &member.body {
-            Body::Beam(beam) => match beam.load_distance {
-                Some(distance) => self.point_loaded(beam, distance, outcome),
-                None => self.beam(beam, outcome),
-            },
+            Body::Beam(beam) => {
+                self.web(beam, outcome);
+                match beam.load_distance {
+                    Some(distance) => self.point_loaded(beam, distance, outcome),
+                    None => self.beam(beam, outcome),
+                }
+            }
             Body::Column(column) => self.column(column, outcome),
             Body::Mesh(mesh) => self.mesh(mesh, outcome),
         }

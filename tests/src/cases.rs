@@ -2,6 +2,7 @@
 
 mod moments;
 mod points;
+mod webs;
 mod written;
 
 use std::path::Path;

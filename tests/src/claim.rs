@@ -123,6 +123,30 @@ fn shear(beam: &Beam) -> Fraction {
     concrete_part(beam) + links
 }
 
+/// β of 6.3.1v: 0.25 where h0/b is at most 4, 0.20 from 6, straight between (document 02, wish 6).
+fn web_factor(beam: &Beam) -> Fraction {
+    let ratio = of(beam.h0(), beam.b);
+    let (squat, slender) = (of(25, 100), of(20, 100));
+    if ratio <= whole(4) {
+        squat
+    } else if ratio >= whole(6) {
+        slender
+    } else {
+        squat.clone() - (squat - slender) * (ratio - whole(4)) / whole(6 - 4)
+    }
+}
+
+/// 6.3.1v: V at most β·fc·b·h0.
+fn web_holds(beam: &Beam) -> bool {
+    let section = of(beam.concrete.fc, 10) * whole(beam.b) * whole(beam.h0());
+    whole(beam.shear) <= web_factor(beam) * section
+}
+
+/// Whether a member is a beam that fails 6.3.1v. No later check is reached then, so none has a figure or a share.
+pub fn web_fails(member: &Member) -> bool {
+    matches!(&member.body, Body::Beam(beam) if !web_holds(beam))
+}
+
 /// f = Mq/(0.87·h0·As), N/mm².
 fn stress(beam: &Beam) -> Fraction {
     whole(1000 * beam.moment_quasi)
@@ -205,6 +229,7 @@ fn plain_of_beam(beam: &Beam) -> Vec<Plain> {
     vec![
         plain("6.3.1", area >= of(2, 1000) * gross.clone() && tension >= of(45, 100) * ft * gross),
         plain("4.2.2-3", depth <= of(beam.steel.depth, 100) * whole(beam.h0())),
+        plain("6.3.1v", web_holds(beam)),
         plain("5.5.6s", beam.spacing <= spacing_limit(beam, needed)),
         plain("5.5.6r", !needed || links >= least),
         plain("4.4.1", stress(beam) <= whole(beam.steel.fyk)),
@@ -372,6 +397,9 @@ pub fn check_line(member: &Member, line: &str) -> Result<(), String> {
     }
     if value(mark)? != u64::from(member.mark) {
         return Err(format!("mark {mark} is not the member's"));
+    }
+    if web_fails(member) && figures[1..].iter().any(|figure| *figure != "-") {
+        return Err(format!("figures {figures:?} where 6.3.1v fails"));
     }
     let exact = exact(member);
     check_figures(&exact, figures)?;

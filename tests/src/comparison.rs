@@ -361,8 +361,11 @@ impl<'a, C: Checker> Comparison<'a, C> {
     }
 }
 
-/// Whether each share is at most 1.0 exactly where its check holds.
-fn agrees(member: &Member, utilization: &Utilization) -> bool {
+/// Whether each share is at most 1.0 exactly where its check holds, and none after the moment's stands where 6.3.1v fails.
+pub fn agrees(member: &Member, utilization: &Utilization) -> bool {
+    if claim::web_fails(member) && utilization.reached[1..].contains(&true) {
+        return false;
+    }
     let outcome = member.check();
     let figures = outcome.figures().len();
     (0..figures).all(|place| {

@@ -16,6 +16,7 @@ pub mod random;
 pub mod record;
 pub mod stored;
 pub mod vectors;
+pub mod webs;
 pub mod words;
 pub mod written;
 

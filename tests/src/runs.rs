@@ -2,6 +2,7 @@
 
 pub mod moments;
 pub mod points;
+pub mod webs;
 pub mod written;
 
 use crate::branches::is_family_2_at_c25;
@@ -37,7 +38,8 @@ pub fn all<C: Checker>(
     written::edge_lists(comparison, random, multiplier)?;
     written::lists(comparison, random, 6000 * multiplier)?;
     every_cover(comparison, random)?;
-    moments::moments(comparison, random, 20 * multiplier)
+    moments::moments(comparison, random, 20 * multiplier)?;
+    webs::webs(comparison, random, 1000 * multiplier)
 }
 
 /// A short run that still reaches every case.
@@ -53,7 +55,8 @@ pub fn quick<C: Checker>(comparison: &mut Comparison<C>, random: &Random) -> Out
     group_lists(comparison, random, 100)?;
     written::lists(comparison, random, 100)?;
     every_cover(comparison, random)?;
-    moments::moments(comparison, random, 2)
+    moments::moments(comparison, random, 2)?;
+    webs::webs(comparison, random, 20)
 }
 
 /// Schedules of few members, accepted or not.
@@ -90,6 +93,18 @@ fn together<C: Checker>(
         comparison.records(&[record])?;
     }
     Ok(())
+}
+
+/// Members alone as built ones, together in schedules.
+fn members<C: Checker>(
+    comparison: &mut Comparison<C>,
+    random: &Random,
+    records: Vec<Record>,
+) -> Outcome {
+    for record in &records {
+        comparison.built(record)?;
+    }
+    together(comparison, random, records)
 }
 
 /// A file that is to be refused so.
@@ -143,11 +158,7 @@ fn hugging_schedules<C: Checker>(
 }
 
 fn equality_schedules<C: Checker>(comparison: &mut Comparison<C>, random: &Random) -> Outcome {
-    let records = equalities::equalities();
-    for record in &records {
-        comparison.built(record)?;
-    }
-    together(comparison, random, records)
+    members(comparison, random, equalities::equalities())
 }
 
 /// Beams whose deflection turns on one rounding, under uniform load and under a point load.
@@ -191,11 +202,7 @@ fn every_slenderness<C: Checker>(comparison: &mut Comparison<C>, random: &Random
 
 /// One beam at each cover: below 20 mm, above 65, and all between, where it moves the width (4.4.2; document 02, wish 4).
 fn every_cover<C: Checker>(comparison: &mut Comparison<C>, random: &Random) -> Outcome {
-    let records = beams::every_cover();
-    for record in &records {
-        comparison.built(record)?;
-    }
-    together(comparison, random, records)
+    members(comparison, random, beams::every_cover())
 }
 
 /// The first accepted member that is made and wanted.

@@ -1,6 +1,7 @@
 //! Document 01's beam 1 built by a caller: its line, its utilizations and the totals of its bars. Then the schedule on standard
 //! input, reported. Then document 01's three members held as records: written, compared with standard input, reported; and
-//! what the writer refuses. Then beam 1 as a point-loaded beam, built and held.
+//! what the writer refuses. Then beam 1 as a point-loaded beam, built and held; with
+//! Mq up to M and above; with V above what its web bears.
 
 use koxaltes::{
     Beam, Column, Group, Mesh, PointLoadedBeam, Question, Record, Refusal, LONGEST_FILE,
@@ -142,6 +143,16 @@ fn show_moments(out: &mut [u8]) {
     print(koxaltes::write_schedule(&[exchanged.record(1, &TENSION, &[])], out));
 }
 
+/// The web crushes: a moment, no shear, neither in the line nor among the utilizations.
+fn show_web(out: &mut [u8]) {
+    let crushed = Beam { v: 411_126, ..BEAM };
+    print(koxaltes::member_report(&crushed.member(1), &TENSION, &[], out));
+    let utilization = koxaltes::member_utilization(&crushed.member(1), &TENSION, &[]);
+    if let Ok([Some(moment), None, None, None]) = utilization.map(|u| u.places) {
+        println!("moment {moment:.3} alone");
+    }
+}
+
 fn main() {
     let mut out = [0; LONGEST_REPORT];
     show_member(&mut out);
@@ -153,4 +164,5 @@ fn main() {
     show_records(&schedule, &mut out);
     show_point_load(&mut out);
     show_moments(&mut out);
+    show_web(&mut out);
 }

@@ -112,6 +112,7 @@ impl Refusal {
 
 /// Beams: moment, shear, width, deflection; columns: axial force first; meshes: anchorage, lap.
 /// Each is at most 1.0 exactly where its check holds; `None` where it was not reached or its divisor is 0.
+/// That of a beam's shear is reached only where the web does not crush (6.3.1v).
 /// A member whose check without a figure fails may have none above 1.0: whether it is OK is said by its line alone.
 #[derive(Clone, Copy, Debug, PartialEq)]
 pub struct Utilization {

@@ -16,14 +16,32 @@ use Rattle.beam.specs.Exact.{none, SafeBeam}
 use Rattle.beam.proofs.Ways.{WayOut, no-figure, to-moment, to-shear, to-width, to-deflection, way-out}
 
 section-safe : {x : Section} {o : Outcome} → Bounded x → WayOut x o → SafeBeam x o
-section-safe a (no-figure s) = record { first = tt; second = tt; third = tt; fourth = tt; passed = says-holds s; named = says-named none s }
-section-safe a (to-moment s) = record { first = moment-safe a; second = tt; third = tt; fourth = tt; passed = says-holds s; named = says-named none s }
-section-safe a (to-shear s) =
-    record { first = moment-safe a; second = shear-safe a; third = tt; fourth = tt; passed = says-holds s; named = says-named none s }
-section-safe a (to-width e g s) =
-    record { first = moment-safe a; second = shear-safe a; third = width-safe _ a e g; fourth = tt; passed = says-holds s; named = says-named none s }
-section-safe a (to-deflection e g s) =
-    record { first = moment-safe a; second = shear-safe a; third = width-safe _ a e g; fourth = deflection-safe _ a e; passed = says-holds s; named = says-named none s }
+section-safe a (no-figure s) =
+    record { first = tt; second = tt; web = tt; third = tt; fourth = tt; passed = says-holds s; named = says-named none s }
+section-safe a (to-moment s) =
+    record { first = moment-safe a; second = tt; web = tt; third = tt; fourth = tt; passed = says-holds s; named = says-named none s }
+section-safe a (to-shear w s) =
+    record { first = moment-safe a; second = shear-safe a; web = w; third = tt; fourth = tt; passed = says-holds s; named = says-named none s }
+section-safe a (to-width w e g s) =
+    record {
+      first = moment-safe a;
+      second = shear-safe a;
+      web = w;
+      third = width-safe _ a e g;
+      fourth = tt;
+      passed = says-holds s;
+      named = says-named none s;
+    }
+section-safe a (to-deflection w e g s) =
+    record {
+      first = moment-safe a;
+      second = shear-safe a;
+      web = w;
+      third = width-safe _ a e g;
+      fourth = deflection-safe _ a e;
+      passed = says-holds s;
+      named = says-named none s;
+    }
 
 pub beam-safe : (x : Beam) → AcceptedBeam x → SafeBeam (sectionOf x) (beamOutcome x)
 beam-safe x a = section-safe (bounded x a) (way-out x a)

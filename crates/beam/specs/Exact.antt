@@ -9,6 +9,7 @@ use Rattle.outcome.specs.declared.Check.the-variants.{
   CompressionDepth,
   Bending,
   CoupleBending,
+  WebCrushing,
   Shear,
   LinkSpacing,
   LeastLinks,
@@ -17,10 +18,11 @@ use Rattle.outcome.specs.declared.Check.the-variants.{
   Deflection,
 }
 use Rattle.outcome.specs.declared.Outcome.{Outcome}
-use Rattle.outcome.specs.Safe.{Place, capacity, extent, Safe}
+use Rattle.outcome.specs.Safe.{Place, capacity, extent, Safe, WhereReached}
 use Rattle.section.specs.declared.Section.{Section}
 use Rattle.section.specs.Section.{M, Vd}
 use Rattle.bending.specs.Exact.{yields, exactMoment, LeastSteelHolds, DepthHolds, BendingHolds}
+use Rattle.web_crushing.specs.Exact.{WebHolds}
 use Rattle.shear.specs.Exact.{exactShear, ShearHolds, LinkSpacingHolds, LeastLinksHold}
 use Rattle.cracking.specs.Exact.{exactWidth, exactWidthLimit, inThousandths, StressHolds, WidthHolds}
 use Rattle.deflection.specs.Exact.{exactDeflection, exactDeflectionLimit, inHundredthsOfMm, DeflectionHolds}
@@ -43,6 +45,7 @@ pub record BeamHolds (x : Section) : Type 0 where
   pub least-steel : LeastSteelHolds x
   pub depth : DepthHolds x
   pub bending : BendingHolds x
+  pub web : WebHolds x
   pub shear : ShearHolds x
   pub spacing : LinkSpacingHolds x
   pub least-links : LeastLinksHold x
@@ -58,6 +61,7 @@ pub data MayName (x : Section) : Check → Type 0 where
   depth : (DepthHolds x → ⊥) → MayName x CompressionDepth
   bending : yields x ≡ true → exactMoment x ⊖ whole (M x) ≺ whole 1 → MayName x Bending
   couple-bending : yields x ≡ false → exactMoment x ⊖ whole (M x) ≺ whole 1 → MayName x CoupleBending
+  web : (WebHolds x → ⊥) → MayName x WebCrushing
   shear : exactShear x ⊖ whole (Vd x) ≺ whole 2 → MayName x Shear
   spacing : (LinkSpacingHolds x → ⊥) → MayName x LinkSpacing
   least-links : (LeastLinksHold x → ⊥) → MayName x LeastLinks
@@ -65,10 +69,11 @@ pub data MayName (x : Section) : Check → Type 0 where
   width : inThousandths (exactWidthLimit x) ⊖ inThousandths (exactWidth x) ≺ 11 // 10 → MayName x CrackWidth
   deflection : inHundredthsOfMm (exactDeflectionLimit x) ⊖ inHundredthsOfMm (exactDeflection x) ≺ 12 // 10 → MayName x Deflection
 
--- demand 3 for the outcome of a beam
+-- demand 3 for the outcome of a beam; a shear figure stands only where 6.3.1v holds
 pub record SafeBeam (x : Section) (o : Outcome) : Type 0 where
   pub first : Safe (o .first) (momentPlace x)
   pub second : Safe (o .second) (shearPlace x)
+  pub web : WhereReached (o .second) (WebHolds x)
   pub third : Safe (o .third) (widthPlace x)
   pub fourth : Safe (o .fourth) (deflectionPlace x)
   pub passed : o .check ≡ Passed → BeamHolds x

@@ -22,9 +22,10 @@ use outcome::two_figures;
 use section::Section;
 use section::section_of;
 use serviceability::from_stress;
+use shear::ShearResult;
+use shear::check_shear;
 use shear::least_links;
 use shear::link_spacing;
-use shear::shear_capacity;
 
 // 5.5.6r.
 fn from_least_links(x: Section, moment: u64, shear: u64) -> Outcome
@@ -50,16 +51,15 @@ fn from_spacing(x: Section, moment: u64, shear: u64) -> Outcome
     }
 }
 
-// 4.3.3.
+// 6.3.1v, then 4.3.3.
 fn from_shear(x: Section, moment: u64) -> Outcome
     requires { ⌜ (Bounded x) × (G x ≤ 50 * S x) ⌝ }
     ensures { λ r. ⌜ r ≡ fromShear x moment ⌝ }
 {
-    let shear = shear_capacity(x).in_newtons();
-    if x.v.in_newtons() <= shear {
-        from_spacing(x, moment, shear)
-    } else {
-        two_figures(Check::Shear, moment, shear)
+    match check_shear(x) {
+        ShearResult::AboveWebLimit => one_figure(Check::WebCrushing, moment),
+        ShearResult::AboveCapacity(shear) => two_figures(Check::Shear, moment, shear.in_newtons()),
+        ShearResult::WithinBoth(shear) => from_spacing(x, moment, shear.in_newtons()),
     }
 }
 

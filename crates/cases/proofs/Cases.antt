@@ -18,7 +18,9 @@ use Rattle.field_domain.specs.Domain.{isPresent, holds, fieldHolds}
 use Rattle.field_table.specs.Fields.{known, kindOf, fieldsOf}
 use Rattle.section.specs.Section.{sectionOf}
 use Rattle.bending.specs.Steps.{leastSteel, compressionDepth, compressionYields, yieldedCapacity, coupleCapacity, bendingCapacity}
+use Rattle.web_crushing.specs.Steps.{webHolds}
 use Rattle.shear.specs.Steps.{concreteShear, linkShear, shearCapacity, shearAbove, linkSpacing, leastLinks}
+use Rattle.shear.specs.ShearCheck.{shearResult}
 use Rattle.cracking.specs.Steps.{stressHolds, steelStress, stiffening, meanStress, crackSpacing, widthOf, σ, q, crackWidth, widthLimit}
 use Rattle.deflection.specs.Steps.{flexibility, curvature, shortTerm, longTerm, deflectionOf, deflection, spanDivisor, deflectionHolds}
 use Rattle.serviceability.specs.Checks.{fromDeflection, fromWidth, fromStress}
@@ -51,7 +53,7 @@ use Rattle.writer.specs.Written.{fileOf}
 use Rattle.cases.specs.Cases.{Table}
 
 pub table : Table
-unfolding fileOf heldMembers recordsOf recordsFrom recordAt recordMembers recordVerdict builtVerdict fieldsVerdict scheduleBytes membersBytes memberNumbers beamNumbers columnNumbers meshNumbers bytesOfAll bytesOf septetsOf parseLine parsedFigure lineOf wordOf split splitMore isDecimal every valueOf valueFrom outputOf reportOf textOf endedBy joinedBy decimal digits lentReportOf lentUtilizationOf lentVerdict lentMember lentBeam lentColumn lentFieldsHold namedHold barTotals numberAt septetsAt lastSeptet schedule members member markAt kindAt markRises markInRange memberBody fields field fieldsOf known kindOf isPresent holds areaOf memberVerdict fieldHolds beamVerdict columnVerdict meshVerdict beamConsistent flangeFits compressionFits depthFits loadFits beamBars beamRatio serviceMomentFits columnConsistent columnBars meshConsistent barCount memberAt beamAt columnAt meshAt beamOutcome sectionOutcome fromDepth fromBending fromShear fromSpacing fromLeastLinks fromStress fromWidth fromDeflection sectionOf concreteOf steelOf fyvOf area sumD sumE groupArea groupDiameters groupSquares leastSteel compressionDepth compressionYields yieldedCapacity coupleCapacity bendingCapacity concreteShear linkShear shearCapacity shearAbove linkSpacing leastLinks spacingLimit stressHolds steelStress stiffening meanStress crackSpacing widthOf σ q crackWidth widthLimit flexibility curvature shortTerm longTerm deflectionOf deflection spanDivisor deflectionHolds columnOutcome linksOutcome slendernessOutcome axialOutcome steelFits linksFit slendernessFits axialCapacity stability interval interpolated concreteArea squashLoad point meshOutcome lapOutcome anchorageLength lapLength requiredLap tensionLap basicLength multiple up down clamp beamUtilization columnUtilization meshUtilization overFigure overLimit ratio deflectionLimit quotient ofInt div round lt
+unfolding fileOf heldMembers recordsOf recordsFrom recordAt recordMembers recordVerdict builtVerdict fieldsVerdict scheduleBytes membersBytes memberNumbers beamNumbers columnNumbers meshNumbers bytesOfAll bytesOf septetsOf parseLine parsedFigure lineOf wordOf split splitMore isDecimal every valueOf valueFrom outputOf reportOf textOf endedBy joinedBy decimal digits lentReportOf lentUtilizationOf lentVerdict lentMember lentBeam lentColumn lentFieldsHold namedHold barTotals numberAt septetsAt lastSeptet schedule members member markAt kindAt markRises markInRange memberBody fields field fieldsOf known kindOf isPresent holds areaOf memberVerdict fieldHolds beamVerdict columnVerdict meshVerdict beamConsistent flangeFits compressionFits depthFits loadFits beamBars beamRatio serviceMomentFits columnConsistent columnBars meshConsistent barCount memberAt beamAt columnAt meshAt beamOutcome sectionOutcome fromDepth fromBending fromShear fromSpacing fromLeastLinks fromStress fromWidth fromDeflection sectionOf concreteOf steelOf fyvOf area sumD sumE groupArea groupDiameters groupSquares leastSteel compressionDepth compressionYields yieldedCapacity coupleCapacity bendingCapacity webHolds shearResult concreteShear linkShear shearCapacity shearAbove linkSpacing leastLinks spacingLimit stressHolds steelStress stiffening meanStress crackSpacing widthOf σ q crackWidth widthLimit flexibility curvature shortTerm longTerm deflectionOf deflection spanDivisor deflectionHolds columnOutcome linksOutcome slendernessOutcome axialOutcome steelFits linksFit slendernessFits axialCapacity stability interval interpolated concreteArea squashLoad point meshOutcome lapOutcome anchorageLength lapLength requiredLap tensionLap basicLength multiple up down clamp beamUtilization columnUtilization meshUtilization overFigure overLimit ratio deflectionLimit quotient ofInt div round lt
 table =
     record {
       beam-1 = refl;
@@ -78,6 +80,28 @@ table =
       point-6000 = refl;
       point-low-shear = refl;
       point-high-shear = refl;
+      web-reached = refl;
+      web-exceeded = refl;
+      web-point-reached = refl;
+      web-point-exceeded = refl;
+      web-399-reached = refl;
+      web-399-exceeded = refl;
+      web-400-reached = refl;
+      web-400-exceeded = refl;
+      web-401-reached = refl;
+      web-401-exceeded = refl;
+      web-500-reached = refl;
+      web-500-exceeded = refl;
+      web-599-reached = refl;
+      web-599-exceeded = refl;
+      web-600-reached = refl;
+      web-600-exceeded = refl;
+      web-601-reached = refl;
+      web-601-exceeded = refl;
+      web-1500-reached = refl;
+      web-1500-exceeded = refl;
+      web-point-500-reached = refl;
+      web-point-500-exceeded = refl;
       stocky = refl;
       slender = refl;
       stability-8 = refl;
@@ -111,6 +135,7 @@ table =
       ratio-before-service = refl;
       service-before-mark = refl;
       service-of-second = refl;
+      web-printed = refl;
       cross-bar-two = refl;
       ends-in-a-field = refl;
       byte-left = refl;
@@ -129,6 +154,8 @@ table =
       point-refused = refl;
       line-service = refl;
       line-point-service = refl;
+      line-web = refl;
+      line-point-web = refl;
       line-2 = refl;
       line-3 = refl;
       count-above = refl;
@@ -158,6 +185,8 @@ table =
       totals-above = refl;
       utilization-1 = refl;
       utilization-point = refl;
+      utilization-web = refl;
+      utilization-point-web = refl;
       utilization-2 = refl;
       utilization-3 = refl;
       utilization-none = refl;
@@ -165,6 +194,7 @@ table =
       utilization-service = refl;
       utilization-point-service = refl;
       governs-1 = refl;
+      governs-web = refl;
       governs-3 = refl;
       governs-none = refl;
     }

@@ -1,4 +1,4 @@
--- The three members of document 01's printed schedule: by their fields, as a caller builds them, as a schedule's bytes and as words; beam 1 under a point load, too; members whose fields are numbered, to show which stands where; a mesh of family 2.
+-- The three members of document 01's printed schedule: by their fields, as a caller builds them, as a schedule's bytes and as words; beam 1 under a point load, too; a narrow beam; members whose fields are numbered, to show which stands where; a mesh of family 2.
 use Prim.Native.Nat.{ℕ, _-_}
 use mathlib.Core.List.{List, [], _∷_, _++_}
 use lib.ListN.{length, replicate}
@@ -15,33 +15,38 @@ bars n d = record { diameter = d; bars = n } ∷ []
 
 -- ---- By their fields.
 
--- beam 1 with its load, its compression steel and a', the spacing of its links and V
-abbrev beamUnder : Load → List Group → ℕ → ℕ → ℕ → Member
-beamUnder load compression a′ spacing shear =
+-- a beam of C30 and HRB400 without a flange, over 6 m, mark 1: its load, b, h, a', its bars, its links (diameter, legs, spacing,
+-- steel), M, Mq and V
+abbrev plainBeam : Load → ℕ → ℕ → ℕ → List Group → List Group → ℕ → ℕ → ℕ → ℕ → ℕ → ℕ → ℕ → Member
+plainBeam load width height a′ tension compression link legs spacing linkSteel design service shear =
     beam 1 (record {
-      b = 250;
-      h = 500;
-      bf = 250;
+      b = width;
+      h = height;
+      bf = width;
       hf = 0;
       aₛ = 40;
       a′ = a′;
       concrete = 30;
       steel = 1;
-      tension = bars 4 20;
+      tension = tension;
       compression = compression;
-      link = 8;
-      legs = 2;
+      link = link;
+      legs = legs;
       s = spacing;
-      linkSteel = 1;
+      linkSteel = linkSteel;
       c = 30;
       l₀ = 6000;
-      M = 150000;
-      Mq = 90000;
+      M = design;
+      Mq = service;
       Vd = shear;
       environment = 1;
       strict = 0;
       load = load;
     })
+
+-- beam 1 with its load, its compression steel and a', the spacing of its links and V
+abbrev beamUnder : Load → List Group → ℕ → ℕ → ℕ → Member
+beamUnder load compression a′ spacing shear = plainBeam load 250 500 a′ (bars 4 20) compression 8 2 spacing 1 150000 90000 shear
 
 abbrev pub beamWith : List Group → ℕ → ℕ → ℕ → Member
 beamWith compression a′ spacing shear = beamUnder Uniform compression a′ spacing shear
@@ -52,6 +57,10 @@ beam₁ spacing shear = beamWith [] 0 spacing shear
 -- under a point load at the distance a
 abbrev pub pointLoaded : ℕ → ℕ → ℕ → Member
 pointLoaded a spacing shear = beamUnder (Point (millimetres a)) [] 0 spacing shear
+
+-- a beam of 100 mm with heavy links: its load, its height h (h0 is 40 less) and V
+abbrev pub narrowBeam : Load → ℕ → ℕ → Member
+narrowBeam load height shear = plainBeam load 100 height 0 (bars 2 20) [] 12 8 50 2 60000 1 shear
 
 -- column 2 with its length l0 and N
 abbrev pub column₂ : ℕ → ℕ → Member
@@ -90,10 +99,13 @@ mesh₃ anchorage lap =
 abbrev pub built : ℕ → ℕ → List ℕ → Lent
 built mark kind v = record { mark = mark; kind = kind; fields = record { v = v ++ replicate (24 - length v) 0 } }
 
--- of kind 1 or 4, with the count of its tension groups, M, Mq and a
+-- of kind 1 or 4, with the count of its tension groups, M, Mq, V and a
+abbrev pub builtLoadedBeam : ℕ → ℕ → ℕ → ℕ → ℕ → ℕ → Lent
+builtLoadedBeam kind count design service shear a =
+    built 1 kind (250 ∷ 500 ∷ 250 ∷ 0 ∷ 40 ∷ 0 ∷ 30 ∷ 1 ∷ count ∷ 0 ∷ 8 ∷ 2 ∷ 200 ∷ 1 ∷ 30 ∷ 6000 ∷ design ∷ service ∷ shear ∷ 1 ∷ 0 ∷ a ∷ [])
+
 abbrev pub builtBeamWith : ℕ → ℕ → ℕ → ℕ → ℕ → Lent
-builtBeamWith kind count design service a =
-    built 1 kind (250 ∷ 500 ∷ 250 ∷ 0 ∷ 40 ∷ 0 ∷ 30 ∷ 1 ∷ count ∷ 0 ∷ 8 ∷ 2 ∷ 200 ∷ 1 ∷ 30 ∷ 6000 ∷ design ∷ service ∷ 120000 ∷ 1 ∷ 0 ∷ a ∷ [])
+builtBeamWith kind count design service a = builtLoadedBeam kind count design service 120000 a
 
 abbrev pub builtBeamOf : ℕ → ℕ → ℕ → Lent
 builtBeamOf kind count a = builtBeamWith kind count 150000 90000 a
@@ -196,16 +208,25 @@ of90001 = 145 ∷ 191 ∷ 5 ∷ []
 abbrev pub of150000 : List ℕ
 of150000 = 240 ∷ 147 ∷ 9 ∷ []
 
+abbrev pub of120000 : List ℕ
+of120000 = 192 ∷ 169 ∷ 7 ∷ []
+
+abbrev pub of411126 : List ℕ
+of411126 = 246 ∷ 139 ∷ 25 ∷ []
+
 -- beam 1's tension groups: their count, then diameter and bars
 abbrev pub fourBars : List ℕ
 fourBars = 1 ∷ 20 ∷ 4 ∷ []
 
--- with its mark, its kind, its tension groups, M and Mq, and what follows the fields of kind 1
-abbrev pub beamBytesWith : ℕ → ℕ → List ℕ → List ℕ → List ℕ → List ℕ
-beamBytesWith mark kind groups moments last =
+-- with its mark, its kind, its tension groups, M and Mq, V, and what follows the fields of kind 1
+abbrev pub loadedBeamBytes : ℕ → ℕ → List ℕ → List ℕ → List ℕ → List ℕ → List ℕ
+loadedBeamBytes mark kind groups moments shear last =
     mark ∷ kind ∷ 250 ∷ 1 ∷ 244 ∷ 3 ∷ 250 ∷ 1 ∷ 0 ∷ 40 ∷ 0 ∷ 30 ∷ 1 ∷ (groups
     ++ (0 ∷ 8 ∷ 2 ∷ 200 ∷ 1 ∷ 1 ∷ 30 ∷ 240 ∷ 46 ∷ (moments
-    ++ (192 ∷ 169 ∷ 7 ∷ 1 ∷ 0 ∷ last))))
+    ++ (shear ++ (1 ∷ 0 ∷ last)))))
+
+abbrev pub beamBytesWith : ℕ → ℕ → List ℕ → List ℕ → List ℕ → List ℕ
+beamBytesWith mark kind groups moments last = loadedBeamBytes mark kind groups moments of120000 last
 
 abbrev pub beamBytes : ℕ → List ℕ → List ℕ
 beamBytes kind last = beamBytesWith 1 kind fourBars (of150000 ++ of90000) last

@@ -36,8 +36,10 @@ use Rattle.cases.specs.CaseMembers.{
   beamWith,
   beam₁,
   pointLoaded,
+  narrowBeam,
   column₂,
   mesh₃,
+  builtLoadedBeam,
   builtBeamWith,
   builtBeamOf,
   builtBeam,
@@ -53,7 +55,9 @@ use Rattle.cases.specs.CaseMembers.{
   of90000,
   of90001,
   of150000,
+  of411126,
   fourBars,
+  loadedBeamBytes,
   beamBytesWith,
   momentBytes,
   pointBytes,
@@ -76,11 +80,15 @@ printed = bytes "members 3\n1 OK 179495 177587 172 1885\n2 OK 2816134 - - -\n3 O
 
 -- ---- Utilizations as doubles.
 
--- beam 1's, with that of the shear: 150000/179495, 172/300 and 1885/3000 are 0.836, 0.573 and 0.628
+-- beam 1's moment, 150000/179495: 0.836
+abbrev ofMoment : Float
+ofMoment = fin false 1881779281053997 (negsuc 50)
+
+-- its four, with that of the shear: 172/300 and 1885/3000 are 0.573 and 0.628
 abbrev ofBeamWith : Float → Utilization
 ofBeamWith shear =
     record {
-      first = fin false 1881779281053997 (negsuc 50);
+      first = ofMoment;
       second = shear;
       third = fin false 5164127572718169 (negsuc 52);
       fourth = fin false 5659523531728923 (negsuc 52);
@@ -98,19 +106,17 @@ ofBeam = ofBeamWith (fin false 380399434702751 (negsuc 48))
 abbrev pub ofPointLoaded : Utilization
 ofPointLoaded = ofBeamWith (fin false 7057827342690011 (negsuc 52))
 
+-- the first reached alone
+abbrev firstAlone : Float → Utilization
+firstAlone first = fourRatios (record { value = first; reached = true }) noRatio noRatio noRatio
+
+-- beam 1's where 6.3.1v fails
+abbrev pub ofMomentAlone : Utilization
+ofMomentAlone = firstAlone ofMoment
+
 -- 2500000/2816134: 0.888
 abbrev pub ofColumn : Utilization
-ofColumn =
-    record {
-      first = fin false 1999016926827033 (negsuc 50);
-      second = nought;
-      third = nought;
-      fourth = nought;
-      firstReached = true;
-      secondReached = false;
-      thirdReached = false;
-      fourthReached = false;
-    }
+ofColumn = firstAlone (fin false 1999016926827033 (negsuc 50))
 
 -- 263/270 and 342/350: 0.974, 0.977
 abbrev pub ofMesh : Utilization
@@ -160,6 +166,30 @@ pub record Table : Type 0 where
   -- table 5.5.6 turns on 115115 N, of which a point load leaves 71946: links of low shear at 100000 N
   pub point-low-shear : memberText (pointLoaded 6000 250 100000) ≡ bytes "1 OK 179495 121924 172 1885\n"
   pub point-high-shear : memberText (pointLoaded 6000 250 115116) ≡ bytes "1 5.5.6s 179495 121924 - -\n"
+  -- 6.3.1v (document 02, wish 6). The web of beam 1 bears 411125 N, under either load: there 4.3.3 alone fails, above it both do, and 6.3.1v is named
+  pub web-reached : memberText (beam₁ 200 411125) ≡ bytes "1 4.3.3 179495 177587 - -\n"
+  pub web-exceeded : memberText (beam₁ 200 411126) ≡ bytes "1 6.3.1v 179495 - - -\n"
+  pub web-point-reached : memberText (pointLoaded 6000 200 411125) ≡ bytes "1 4.3.3 179495 134418 - -\n"
+  pub web-point-exceeded : memberText (pointLoaded 6000 200 411126) ≡ bytes "1 6.3.1v 179495 - - -\n"
+  -- a narrow beam with heavy links, h0/b of 4, of 6, 1 mm to either side, between and above: the largest V that its web bears, and 1 N more
+  pub web-399-reached : memberText (narrowBeam Uniform 439 142642) ≡ bytes "1 OK 72369 2639248 1 1\n"
+  pub web-399-exceeded : memberText (narrowBeam Uniform 439 142643) ≡ bytes "1 6.3.1v 72369 - - -\n"
+  pub web-400-reached : memberText (narrowBeam Uniform 440 143000) ≡ bytes "1 OK 72595 2645864 1 1\n"
+  pub web-400-exceeded : memberText (narrowBeam Uniform 440 143001) ≡ bytes "1 6.3.1v 72595 - - -\n"
+  pub web-401-reached : memberText (narrowBeam Uniform 441 143214) ≡ bytes "1 OK 72821 2652478 1 1\n"
+  pub web-401-exceeded : memberText (narrowBeam Uniform 441 143215) ≡ bytes "1 6.3.1v 72821 - - -\n"
+  pub web-500-reached : memberText (narrowBeam Uniform 540 160875) ≡ bytes "1 OK 95217 3307330 1 1\n"
+  pub web-500-exceeded : memberText (narrowBeam Uniform 540 160876) ≡ bytes "1 6.3.1v 95217 - - -\n"
+  pub web-599-reached : memberText (narrowBeam Uniform 639 171528) ≡ bytes "1 OK 117614 3962180 1 1\n"
+  pub web-599-exceeded : memberText (narrowBeam Uniform 639 171529) ≡ bytes "1 6.3.1v 117614 - - -\n"
+  pub web-600-reached : memberText (narrowBeam Uniform 640 171600) ≡ bytes "1 OK 117840 3968796 1 1\n"
+  pub web-600-exceeded : memberText (narrowBeam Uniform 640 171601) ≡ bytes "1 6.3.1v 117840 - - -\n"
+  pub web-601-reached : memberText (narrowBeam Uniform 641 171886) ≡ bytes "1 OK 118066 3975410 1 1\n"
+  pub web-601-exceeded : memberText (narrowBeam Uniform 641 171887) ≡ bytes "1 6.3.1v 118066 - - -\n"
+  pub web-1500-reached : memberText (narrowBeam Uniform 1540 429000) ≡ bytes "1 OK 321441 9921990 1 1\n"
+  pub web-1500-exceeded : memberText (narrowBeam Uniform 1540 429001) ≡ bytes "1 6.3.1v 321441 - - -\n"
+  pub web-point-500-reached : memberText (narrowBeam (Point (millimetres 6000)) 540 160875) ≡ bytes "1 OK 95217 3288561 1 1\n"
+  pub web-point-500-exceeded : memberText (narrowBeam (Point (millimetres 6000)) 540 160876) ≡ bytes "1 6.3.1v 95217 - - -\n"
   -- l0/b of 8 and 50, and φ in hundredths there, where the steps write 200·b for 1
   pub stocky : memberText (column₂ (8 * 400) 2500000) ≡ bytes "2 OK 2873606 - - -\n"
   pub slender : memberText (column₂ (50 * 400) 2500000) ≡ bytes "2 4.2.4 545985 - - -\n"
@@ -200,6 +230,8 @@ pub record Table : Type 0 where
   pub ratio-before-service : outputOf (momentBytes (1 ∷ 50 ∷ 20 ∷ []) of90000 of90001) ≡ bytes "refused 10 member 1\n"
   pub service-before-mark : outputOf (2 ∷ (beamBytesWith 1 1 fourBars (of90000 ++ of90001) [] ++ meshBytes 1)) ≡ bytes "refused 14 member 1\n"
   pub service-of-second : outputOf (2 ∷ (meshBytes 1 ++ beamBytesWith 2 1 fourBars (of90000 ++ of90001) [])) ≡ bytes "refused 14 member 2\n"
+  -- V one above the limit of the web: the moment, and three places without a figure
+  pub web-printed : outputOf (1 ∷ loadedBeamBytes 1 1 fourBars (of150000 ++ of90000) of411126 []) ≡ bytes "members 1\n1 6.3.1v 179495 - - -\n"
   pub cross-bar-two : outputOf (1 ∷ 1 ∷ 3 ∷ 1 ∷ 30 ∷ 10 ∷ 2 ∷ []) ≡ bytes "refused 7 member 1\n"
   pub ends-in-a-field : outputOf (1 ∷ 1 ∷ 2 ∷ 172 ∷ 2 ∷ 172 ∷ 2 ∷ 30 ∷ []) ≡ bytes "refused 2 member 1\n"
   pub byte-left : outputOf (0 ∷ 0 ∷ []) ≡ bytes "refused 11 member 0\n"
@@ -239,6 +271,9 @@ pub record Table : Type 0 where
   -- Mq one above M
   pub line-service : lentReportOf (builtBeamWith 1 1 90000 90001 0) (bars 4 20) [] ≡ no (refusal ServiceMoment 1)
   pub line-point-service : lentReportOf (builtBeamWith 4 1 90000 90001 0) (bars 4 20) [] ≡ no (refusal ServiceMoment 1)
+  -- V one above the limit of the web
+  pub line-web : lentReportOf (builtLoadedBeam 1 1 150000 90000 411126 0) (bars 4 20) [] ≡ got (bytes "1 6.3.1v 179495 - - -\n")
+  pub line-point-web : lentReportOf (builtLoadedBeam 4 1 150000 90000 411126 0) (bars 4 20) [] ≡ got (bytes "1 6.3.1v 179495 - - -\n")
   pub line-2 : lentReportOf builtColumn (bars 8 20) [] ≡ got (bytes "2 OK 2816134 - - -\n")
   pub line-3 : lentReportOf (builtMesh 270 350) [] [] ≡ got (bytes "3 OK 263 342 - -\n")
   pub count-above : lentReportOf (builtBeam 2) (bars 4 20) [] ≡ no (refusal Field 1)
@@ -282,6 +317,8 @@ pub record Table : Type 0 where
   -- their utilizations; an anchorage given as 0 fails and has none; a length above 100000 is refused
   pub utilization-1 : lentUtilizationOf (builtBeam 1) (bars 4 20) [] ≡ valuesGiven ofBeam
   pub utilization-point : lentUtilizationOf (builtBeamOf 4 1 1000) (bars 4 20) [] ≡ valuesGiven ofPointLoaded
+  pub utilization-web : lentUtilizationOf (builtLoadedBeam 1 1 150000 90000 411126 0) (bars 4 20) [] ≡ valuesGiven ofMomentAlone
+  pub utilization-point-web : lentUtilizationOf (builtLoadedBeam 4 1 150000 90000 411126 0) (bars 4 20) [] ≡ valuesGiven ofMomentAlone
   pub utilization-2 : lentUtilizationOf builtColumn (bars 8 20) [] ≡ valuesGiven ofColumn
   pub utilization-3 : lentUtilizationOf (builtMesh 270 350) [] [] ≡ valuesGiven ofMesh
   pub utilization-none : lentUtilizationOf (builtMesh 0 350) [] [] ≡ valuesGiven ofNone
@@ -290,5 +327,6 @@ pub record Table : Type 0 where
   pub utilization-point-service : lentUtilizationOf (builtBeamWith 4 1 90000 90001 0) (bars 4 20) [] ≡ valuesRefused (refusal ServiceMoment 1)
   -- the moment governs the beam, the lap the mesh
   pub governs-1 : governingOf ofBeam ≡ double (ofBeam .first)
+  pub governs-web : governingOf ofMomentAlone ≡ double (ofMomentAlone .first)
   pub governs-3 : governingOf ofMesh ≡ double (ofMesh .second)
   pub governs-none : governingOf ofNone ≡ none

@@ -32,6 +32,7 @@ checks =
     ∷ variants.CompressionDepth
     ∷ variants.Bending
     ∷ variants.CoupleBending
+    ∷ variants.WebCrushing
     ∷ variants.Shear
     ∷ variants.LinkSpacing
     ∷ variants.LeastLinks
@@ -54,6 +55,7 @@ facts variants.LeastSteel = (refl, refl, refl)
 facts variants.CompressionDepth = (refl, refl, refl)
 facts variants.Bending = (refl, refl, refl)
 facts variants.CoupleBending = (refl, refl, refl)
+facts variants.WebCrushing = (refl, refl, refl)
 facts variants.Shear = (refl, refl, refl)
 facts variants.LinkSpacing = (refl, refl, refl)
 facts variants.LeastLinks = (refl, refl, refl)

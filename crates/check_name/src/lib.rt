@@ -16,6 +16,7 @@ pub fn name_of(c: Check) -> Word
         Check::CompressionDepth => word_of(7, [b'4', b'.', b'2', b'.', b'2', b'-', b'3', b' ']),
         Check::Bending => word_of(5, [b'4', b'.', b'2', b'.', b'2', b' ', b' ', b' ']),
         Check::CoupleBending => word_of(5, [b'4', b'.', b'2', b'.', b'3', b' ', b' ', b' ']),
+        Check::WebCrushing => word_of(6, [b'6', b'.', b'3', b'.', b'1', b'v', b' ', b' ']),
         Check::Shear => word_of(5, [b'4', b'.', b'3', b'.', b'3', b' ', b' ', b' ']),
         Check::LinkSpacing => word_of(6, [b'5', b'.', b'5', b'.', b'6', b's', b' ', b' ']),
         Check::LeastLinks => word_of(6, [b'5', b'.', b'5', b'.', b'6', b'r', b' ', b' ']),

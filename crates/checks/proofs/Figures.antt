@@ -62,9 +62,9 @@ module _ {x : Section} (a : Bounded x) where
   section-short : {o : Outcome} → beams.WayOut x o → Short o
   section-short (beams.no-figure _) = record { first = tt; second = tt; third = tt; fourth = tt }
   section-short (beams.to-moment _) = record { first = moment-short; second = tt; third = tt; fourth = tt }
-  section-short (beams.to-shear _) = record { first = moment-short; second = shear-short; third = tt; fourth = tt }
-  section-short (beams.to-width e g _) = record { first = moment-short; second = shear-short; third = width-short e g; fourth = tt }
-  section-short (beams.to-deflection e g _) = record { first = moment-short; second = shear-short; third = width-short e g; fourth = deflection-short e }
+  section-short (beams.to-shear _ _) = record { first = moment-short; second = shear-short; third = tt; fourth = tt }
+  section-short (beams.to-width _ e g _) = record { first = moment-short; second = shear-short; third = width-short e g; fourth = tt }
+  section-short (beams.to-deflection _ e g _) = record { first = moment-short; second = shear-short; third = width-short e g; fourth = deflection-short e }
 
 pub beam-short : (x : Beam) → AcceptedBeam x → Short (beamOutcome x)
 unfolding beamOutcome

@@ -1,4 +1,4 @@
--- The outcome of a member's checks, and the name by which document 01 prints each check.
+-- The outcome of a member's checks, and the name by which the papers print each check.
 use Prim.Native.Nat.{ℕ}
 use mathlib.Core.List.{List, [], _∷_}
 use Rattle.outcome.specs.declared.Check.{Check}
@@ -8,6 +8,7 @@ use Rattle.outcome.specs.declared.Check.the-variants.{
   CompressionDepth,
   Bending,
   CoupleBending,
+  WebCrushing,
   Shear,
   LinkSpacing,
   LeastLinks,
@@ -57,6 +58,8 @@ nameOf CompressionDepth = 52 ∷ 46 ∷ 50 ∷ 46 ∷ 50 ∷ 45 ∷ 51 ∷ []
 nameOf Bending = 52 ∷ 46 ∷ 50 ∷ 46 ∷ 50 ∷ []
 -- 4.2.3
 nameOf CoupleBending = 52 ∷ 46 ∷ 50 ∷ 46 ∷ 51 ∷ []
+-- 6.3.1v
+nameOf WebCrushing = 54 ∷ 46 ∷ 51 ∷ 46 ∷ 49 ∷ 118 ∷ []
 -- 4.3.3
 nameOf Shear = 52 ∷ 46 ∷ 51 ∷ 46 ∷ 51 ∷ []
 -- 5.5.6s

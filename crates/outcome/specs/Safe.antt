@@ -11,6 +11,11 @@ pub data Place : Type 0 where
   capacity : Frac → Frac → Place
   extent : Frac → Frac → Place
 
+-- P where the figure was reached
+abbrev pub WhereReached : Figure → Type 0 → Type 0
+WhereReached Unreached P = Unit {0}
+WhereReached (Reached v) P = P
+
 abbrev pub Safe : Figure → Place → Type 0
 Safe Unreached place = Unit {0}
 Safe (Reached v) empty = ⊥

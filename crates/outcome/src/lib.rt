@@ -13,6 +13,8 @@ pub enum Check {
     Bending,
     // 4.2.3: bending by the couple of tension and compression steel (x < 2a').
     CoupleBending,
+    // 6.3.1v: crushing of the web (GB 50010, 6.3.1).
+    WebCrushing,
     // 4.3.3: shear.
     Shear,
     // 5.5.6s: spacing of links in a beam.

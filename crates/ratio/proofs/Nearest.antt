@@ -4,11 +4,13 @@ use mathlib.Core.Path.{_≡_, refl}
 use mathlib.Core.Bool.{Bool, true, false, false≢true}
 use native.Mathlib.Omega.{arith}
 use lib.Dec.{T, leb, eqb}
+use lib.Ieee.{Float}
 use borrow.Author.Tests.{eqb-false}
 use Rattle.quantity.specs.Choice.{if_then_else_}
 use Rattle.quantity.proofs.Choice.{if-case}
 use Rattle.outcome.specs.declared.Figure.{Figure}
 use Rattle.outcome.specs.declared.Figure.the-variants.{Reached, Unreached}
+use Rattle.outcome.specs.Safe.{WhereReached}
 use Rattle.ratio.specs.declared.Ratio.{Ratio}
 use Rattle.ratio.specs.Ratio.{quotient, nearest, noRatio, ratio, overFigure, overLimit, ExactFigure, Decides, finiteNonneg}
 use Rattle.ratio.proofs.Division.{quotient-nearest, at-most-one, nearest-nonneg}
@@ -55,6 +57,12 @@ pub limit-decides : (f : Figure) (n b : ℕ) → Is n f → b < 2 ^ 53 → Decid
 unfolding overLimit
 limit-decides (Reached v) n b e k = rw (← e) (ratio-decides v b k)
 limit-decides Unreached n b e k = λ r. absurd (false≢true r)
+
+-- a utilization over a figure was reached only where the figure was
+pub figure-where-reached : (over : ℕ → ℕ → Float) (a : ℕ) (f : Figure) {P : Type 0} → WhereReached f P → overFigure over a f .reached ≡ true → P
+unfolding overFigure
+figure-where-reached over a (Reached v) h r = h
+figure-where-reached over a Unreached h r = absurd (false≢true r)
 
 -- ---- Finite and not negative.
 

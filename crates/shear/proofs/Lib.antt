@@ -1,4 +1,5 @@
 pub mod Bounds
 pub mod Tests
 pub mod Exact
+pub mod ShearCheck
 pub mod NearSupport

@@ -1,8 +1,12 @@
-// Shear and links of beams: shear capacity, spacing of links, least links.
+// Shear and links of beams: the shear check, spacing of links, least links.
 ghost use mathlib.Core.Path.{_≡_};
 ghost use Prim.Native.Nat.{_≤_};
+ghost use lib.Dec.{leb};
 ghost use Rattle.quantity.specs.Unit.{newtons};
 ghost use Rattle.section.specs.Bounded.{Bounded};
+ghost use Rattle.quantity.specs.Choice.{if_then_else_};
+ghost use Rattle.web_crushing.specs.Exact.{WebHolds};
+ghost use Rattle.shear.specs.ShearCheck.{ShearChecked};
 ghost use Rattle.shear.specs.Steps.{concretePart, clampedRatio, concreteUnder, concreteShear, linkShear, shearCapacity, shearAbove, linkSpacing, linksSuffice, leastLinks};
 use code_tables::spacing_limit;
 use member::Load;
@@ -11,6 +15,17 @@ use quantity::Length;
 use quantity::clamped;
 use quantity::div_down;
 use section::Section;
+use web_crushing::web_holds;
+
+// What the shear check comes to. A capacity is given only where 6.3.1v holds.
+pub enum ShearResult {
+    // V is above what the web bears: 6.3.1v fails.
+    AboveWebLimit,
+    // V is above this capacity: 4.3.3 fails.
+    AboveCapacity(Force),
+    // V is within the limit of the web and this capacity.
+    WithinBoth(Force),
+}
 
 // 7·ft·b·h0, in thousandths of N.
 fn concrete_part(x: Section) -> u64
@@ -61,12 +76,35 @@ fn link_shear(x: Section) -> Force
     Force::of_newtons(div_down(force * x.h0.in_millimetres(), 10 * x.s.in_millimetres()))
 }
 
-// 4.3.3.
-pub fn shear_capacity(x: Section) -> Force
-    requires { ⌜ Bounded x ⌝ }
+// The capacity of 4.3.3, where 6.3.1v holds.
+fn shear_capacity(x: Section) -> Force
+    requires { ⌜ (Bounded x) × (WebHolds x) ⌝ }
     ensures { λ r. ⌜ r ≡ newtons (shearCapacity x) ⌝ }
 {
     concrete_shear(x).plus(link_shear(x))
+}
+
+// 4.3.3, by its capacity.
+fn by_capacity(v: Force, capacity: Force) -> ShearResult
+    ensures { λ r. ⌜ r ≡ (if leb (v .0) (capacity .0) then ShearResult.WithinBoth capacity else ShearResult.AboveCapacity capacity) ⌝ }
+{
+    if v.in_newtons() <= capacity.in_newtons() {
+        ShearResult::WithinBoth(capacity)
+    } else {
+        ShearResult::AboveCapacity(capacity)
+    }
+}
+
+// 6.3.1v, then 4.3.3.
+pub fn check_shear(x: Section) -> ShearResult
+    requires { ⌜ Bounded x ⌝ }
+    ensures { λ r. ⌜ ShearChecked x r ⌝ }
+{
+    if web_holds(x) {
+        by_capacity(x.v, shear_capacity(x))
+    } else {
+        ShearResult::AboveWebLimit
+    }
 }
 
 // Whether the shear is above 0.7·ft·b·h0, the first case of table 5.5.6.

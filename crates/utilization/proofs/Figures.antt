@@ -52,9 +52,9 @@ pub record BeamFigures (x : Section) (o : Outcome) : Type 0 where
 section-figures : {x : Section} {o : Outcome} → beams.WayOut x o → BeamFigures x o
 section-figures (beams.no-figure _) = record { moment = tt; shear = tt; width = tt; deflection-is = tt }
 section-figures (beams.to-moment _) = record { moment = refl; shear = tt; width = tt; deflection-is = tt }
-section-figures (beams.to-shear _) = record { moment = refl; shear = refl; width = tt; deflection-is = tt }
-section-figures (beams.to-width _ _ _) = record { moment = refl; shear = refl; width = refl; deflection-is = tt }
-section-figures (beams.to-deflection _ _ _) = record { moment = refl; shear = refl; width = refl; deflection-is = refl }
+section-figures (beams.to-shear _ _) = record { moment = refl; shear = refl; width = tt; deflection-is = tt }
+section-figures (beams.to-width _ _ _ _) = record { moment = refl; shear = refl; width = refl; deflection-is = tt }
+section-figures (beams.to-deflection _ _ _ _) = record { moment = refl; shear = refl; width = refl; deflection-is = refl }
 
 pub beam-figures : (x : Beam) → AcceptedBeam x → BeamFigures (sectionOf x) (beamOutcome x)
 beam-figures x a = section-figures (beams.way-out x a)

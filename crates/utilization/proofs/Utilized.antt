@@ -29,6 +29,7 @@ use Rattle.verdict.specs.Built.{memberOf}
 use Rattle.verdict.specs.Verdict.{builtVerdict}
 use Rattle.verdict.proofs.Accepted.{accepted-built}
 use Rattle.checks.specs.MemberOutcome.{outcomeOf}
+use Rattle.beam.proofs.Safe.{beam-safe}
 use Rattle.column.proofs.Safe.{column-given}
 use Rattle.checks.proofs.Figures.{member-short}
 use Rattle.ratio.specs.declared.Utilization.{Utilization}
@@ -39,7 +40,7 @@ use Rattle.utilization.specs.Utilization.{deflectionLimit, beamUtilizati
 use Rattle.governing.specs.Governing.{ratiosOf, FiniteNonneg}
 use Rattle.utilization.specs.Utilized.{utilizationAnswer, DecidesMember, Utilized}
 use Rattle.utilization.proofs.Figures.{exact-figures, beam-figures, axial-figure, mesh-figures}
-use Rattle.ratio.proofs.Nearest.{figure-nearest, limit-nearest, figure-decides, limit-decides, no-ratio-nonneg, figure-nonneg, limit-nonneg}
+use Rattle.ratio.proofs.Nearest.{figure-nearest, limit-nearest, figure-decides, limit-decides, figure-where-reached, no-ratio-nonneg, figure-nonneg, limit-nonneg}
 
 -- ---- Limits.
 
@@ -99,6 +100,7 @@ member-decides (beam mark x) a =
     record {
       moment = figure-decides _ _ _ (e .first) (f .moment);
       shear = figure-decides _ _ _ (e .second) (f .shear);
+      web = figure-where-reached _ _ _ (beam-safe x (a .1) .web);
       width = limit-decides _ _ _ (f .width) (width-limit-small (x .environment));
       deflection = rw (← deflection-by-limit (sectionOf x)) (limit-decides _ _ _ (f .deflection-is) (deflection-limit-small _ (x .strict) (a .1 .l₀-most)));
     }

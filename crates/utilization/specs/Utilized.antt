@@ -1,6 +1,7 @@
 -- The utilization of a built member, and the whole promise of `utilization_of`.
 use Prim.Native.Nat.{ℕ}
 use mathlib.Core.Path.{_≡_}
+use mathlib.Core.Bool.{true}
 use lib.Dec.{leb}
 use Rattle.question.specs.declared.Refusal.{Refusal}
 use Rattle.question.specs.Question.{numberOf}
@@ -10,6 +11,7 @@ use Rattle.member.specs.Member.{Member, beam, column, mesh, Column, Mesh}
 use Rattle.section.specs.declared.Section.{Section}
 use Rattle.section.specs.Section.{sectionOf, M, Vd}
 use Rattle.bending.specs.Steps.{bendingCapacity}
+use Rattle.web_crushing.specs.Exact.{WebHolds}
 use Rattle.shear.specs.Steps.{shearCapacity}
 use Rattle.cracking.specs.Steps.{crackWidth, widthLimit}
 use Rattle.deflection.specs.Steps.{deflectionHolds}
@@ -53,9 +55,11 @@ utilizationBy (verdicts.Refused q) m = valuesRefused (record { question = q; mem
 unfoldable pub utilizationAnswer : Built → Values
 utilizationAnswer x = utilizationBy (builtVerdict (x .mark) (x .kind) (x .fields .v)) (memberOf x)
 
+-- each utilization decides its check; that of the shear stands only where 6.3.1v holds
 pub record DecidesBeam (x : Section) (u : Utilization) : Type 0 where
   pub moment : Decides (u .firstReached) (u .first) (leb (M x) (bendingCapacity x))
   pub shear : Decides (u .secondReached) (u .second) (leb (Vd x) (shearCapacity x))
+  pub web : u .secondReached ≡ true → WebHolds x
   pub width : Decides (u .thirdReached) (u .third) (leb (crackWidth x) (widthLimit (x .environment)))
   pub deflection : Decides (u .fourthReached) (u .fourth) (deflectionHolds x)
 

@@ -206,7 +206,7 @@ impl Tally {
     }
 }
 
-/// The checks of a beam.
+/// The checks of a beam, save 6.3.1v, which has cases of its own.
 const CHECKS: [Check; 10] = [
     Check::MinimumSteel,
     Check::DepthLimit,

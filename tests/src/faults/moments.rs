@@ -1,5 +1,6 @@
 //! The comparison notices mistakes about question 14.
 
+use super::Mistaken;
 use crate::branches::{Entry, ENTRIES};
 use crate::comparison::{Checker, Comparison, Model};
 use crate::guard::{List, Words};
@@ -13,8 +14,9 @@ use crate::model::schedule::{self, Refusal};
 use crate::model::writing;
 use crate::runs;
 
-#[derive(Clone, Copy, Debug, PartialEq)]
+#[derive(Clone, Copy, Debug, Default, PartialEq)]
 enum Mistake {
+    #[default]
     None,
     /// Mq is to be below M.
     Below,
@@ -139,20 +141,7 @@ impl Mistake {
     }
 }
 
-/// Makes a mistake about members that are given in one way.
-struct Mistaken(Mistake, Entry);
-
-impl Mistaken {
-    fn about(&self, entry: Entry) -> Mistake {
-        if self.1 == entry {
-            self.0
-        } else {
-            Mistake::None
-        }
-    }
-}
-
-impl Checker for Mistaken {
+impl Checker for Mistaken<Mistake> {
     fn report(&self, schedule: &[u8], out: &mut [u8]) -> Result<usize, Refusal> {
         let given = Given::File(schedule.to_vec());
         match self.about(Entry::File).answer(&given)? {

@@ -1,5 +1,6 @@
 //! The comparison notices mistakes about point loads.
 
+use super::{line_of, put, Mistaken};
 use crate::branches::Entry;
 use crate::comparison::{Checker, Comparison, Model};
 use crate::guard::{List, Words};
@@ -16,8 +17,9 @@ use crate::model::schedule::{self, Refusal};
 use crate::model::writing;
 use crate::runs;
 
-#[derive(Clone, Copy, Debug, PartialEq)]
+#[derive(Clone, Copy, Debug, Default, PartialEq)]
 enum Mistake {
+    #[default]
     None,
     /// λ is not held to at most 3.
     NotHeldAbove,
@@ -121,11 +123,7 @@ impl Mistake {
             },
             _ => member.check(),
         };
-        let word = outcome.failed.map_or("OK", Check::name);
-        let mut words = vec![member.mark.to_string(), word.to_string()];
-        words.extend(outcome.figures().iter().map(u64::to_string));
-        words.resize(6, "-".to_string());
-        words.join(" ") + "\n"
+        line_of(member, &outcome) + "\n"
     }
 
     /// Whether a member that the model accepts is refused by question 8.
@@ -214,12 +212,6 @@ impl Mistake {
     }
 }
 
-/// Puts the bytes into a buffer that has room for them.
-fn put(bytes: &[u8], out: &mut [u8], no: Refusal) -> Result<usize, Refusal> {
-    out.get_mut(..bytes.len()).ok_or(no)?.copy_from_slice(bytes);
-    Ok(bytes.len())
-}
-
 /// The bytes of a file without the a of any member.
 fn without_loads(file: &[u8]) -> Vec<u8> {
     let records = decode(file);
@@ -236,20 +228,7 @@ fn without_loads(file: &[u8]) -> Vec<u8> {
 /// Longer than any written schedule.
 const LONGEST: usize = 60_000;
 
-/// Makes a mistake about members that are given in one way.
-struct Mistaken(Mistake, Entry);
-
-impl Mistaken {
-    fn about(&self, entry: Entry) -> Mistake {
-        if self.1 == entry {
-            self.0
-        } else {
-            Mistake::None
-        }
-    }
-}
-
-impl Checker for Mistaken {
+impl Checker for Mistaken<Mistake> {
     fn report(&self, schedule: &[u8], out: &mut [u8]) -> Result<usize, Refusal> {
         let mistake = self.about(Entry::File);
         let members = schedule::read(&mistake.file(schedule))?;

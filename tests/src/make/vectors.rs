@@ -1,5 +1,6 @@
-//! Vectors for another test program: some 300 members of the kinds 1 to 3 that reach every case, and point-loaded beams that
-//! are chosen by theirs, read and written, damaged schedules, refused lists, and two vectors that are wrong on purpose.
+//! Vectors for another test program: some 300 members of the kinds 1 to 3 that reach every case, point-loaded beams that
+//! are chosen by theirs, and the beams of 6.3.1v, read and written; damaged schedules, refused lists, and two vectors that
+//! are wrong on purpose.
 
 mod lists;
 
@@ -7,9 +8,10 @@ use std::collections::{BTreeMap, BTreeSet};
 
 use super::base::{hugging_members, random_member};
 use super::edges::question_edges;
+use super::written::number;
 use super::{
-    damage, encode, equalities, hunts, moments, points, random_point_loaded, renumber, Random,
-    Record,
+    damage, encode, equalities, hunts, moments, points, random_point_loaded, renumber, webs,
+    Random, Record,
 };
 use crate::branches::{point_load_cases, required, Case, Tally};
 use crate::model::report::report;
@@ -156,16 +158,27 @@ fn refused(members: &[Record], random: &Random) -> Vec<Vec<u8>> {
     schedules
 }
 
+/// Each member alone, and all of them.
+fn alone_and_together(members: &[Record]) -> Vec<Vec<u8>> {
+    let alone = members.iter().map(|one| encode(std::slice::from_ref(one)));
+    alone.chain([encode(members)]).collect()
+}
+
 /// Each member alone, all of them, none, and refused ones, also for what kind 4 and question 14 add.
 fn schedules(members: &[Record], random: &Random) -> Vec<Vec<u8>> {
-    let mut schedules: Vec<Vec<u8>> =
-        members.iter().map(|one| encode(std::slice::from_ref(one))).collect();
-    schedules.push(encode(members));
+    let mut schedules = alone_and_together(members);
     schedules.push(vec![0]);
     schedules.extend(refused(members, random));
     let files = [points::refused_files(), moments::refused_files()].concat();
     schedules.extend(files.into_iter().map(|(file, _)| file));
     schedules
+}
+
+/// The beams around 6.3.1v's limit, with marks from 1. They stand apart and change none of the other members.
+fn web_beams() -> Vec<Record> {
+    let mut records: Vec<Record> = webs::examples().into_iter().map(|(record, _)| record).collect();
+    number(&mut records);
+    records
 }
 
 /// A schedule and what is printed for it, or words and what is written for them.
@@ -205,11 +218,13 @@ impl Vector {
 
 /// A row of vectors and how many there are. The last two texts are wrong on purpose: whoever compares must count two unequal.
 pub fn vectors(random: &Random) -> (usize, Vec<u8>) {
-    let members = all_members(random);
-    let schedules = schedules(&members, random).into_iter().map(Vector::of_schedule);
-    let mut vectors: Vec<Vector> = schedules.collect();
+    let (members, webs) = (all_members(random), web_beams());
+    let mut schedules = schedules(&members, random);
+    schedules.extend(alone_and_together(&webs));
+    let mut vectors: Vec<Vector> = schedules.into_iter().map(Vector::of_schedule).collect();
     let first_list = vectors.len();
     vectors.extend(lists::lists(&members, random).into_iter().map(Vector::of_words));
+    vectors.push(Vector::of_words(lists::together(&webs, random)));
     vectors.push(vectors[first_list].clone().wrong());
     vectors.push(vectors[0].clone().wrong());
     let mut row = Vec::new();

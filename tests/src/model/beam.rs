@@ -176,6 +176,25 @@ impl Beam {
         (doubled_block * (t * self.h0() + compression) - t * t) / (10_000 * doubled_block)
     }
 
+    /// What 6.3.1v holds V against, β·fc·b·h0 in N, as its upper and lower number: β is 0.25 where h0/b is at most
+    /// 4, 0.20 from 6, and 0.35 - h0/(40·b) between (document 02, wish 6).
+    pub fn web_limit(&self) -> (u64, u64) {
+        let (b, h0, fc) = (self.b, self.h0(), self.concrete.fc);
+        if h0 <= 4 * b {
+            (fc * b * h0, 40)
+        } else if h0 >= 6 * b {
+            (fc * b * h0, 50)
+        } else {
+            (fc * h0 * (14 * b - h0), 400)
+        }
+    }
+
+    /// 6.3.1v: the web itself does not crush.
+    pub fn is_within_web_limit(&self) -> bool {
+        let (upper, lower) = self.web_limit();
+        lower * self.shear <= upper
+    }
+
     /// 4.3.3: shear capacity, N.
     pub fn shear_capacity(&self) -> u64 {
         let links = self.link_steel.fyv * self.link_area() * self.h0() / (10 * self.spacing);
@@ -322,6 +341,9 @@ impl Beam {
         if capacity < self.moment {
             let shallow = self.is_shallow();
             return outcome.fails(if shallow { Check::MomentShallow } else { Check::Moment });
+        }
+        if !self.is_within_web_limit() {
+            return outcome.fails(Check::WebCrushing);
         }
         let capacity = self.shear_capacity();
         outcome.push(capacity);

@@ -1,12 +1,13 @@
 //! What a checker finds of a member.
 
-/// The checks of document 01, each named as the report prints it.
+/// The checks of document 01, and 6.3.1v of document 02, wish 6, each named as the report prints it.
 #[derive(Clone, Copy, Debug, PartialEq, Eq)]
 pub enum Check {
     MinimumSteel,
     DepthLimit,
     Moment,
     MomentShallow,
+    WebCrushing,
     Shear,
     LinkSpacing,
     LinkRatio,
@@ -22,11 +23,12 @@ pub enum Check {
 }
 
 impl Check {
-    pub const ALL: [Check; 16] = [
+    pub const ALL: [Check; 17] = [
         Check::MinimumSteel,
         Check::DepthLimit,
         Check::Moment,
         Check::MomentShallow,
+        Check::WebCrushing,
         Check::Shear,
         Check::LinkSpacing,
         Check::LinkRatio,
@@ -47,6 +49,7 @@ impl Check {
             Check::DepthLimit => "4.2.2-3",
             Check::Moment => "4.2.2",
             Check::MomentShallow => "4.2.3",
+            Check::WebCrushing => "6.3.1v",
             Check::Shear => "4.3.3",
             Check::LinkSpacing => "5.5.6s",
             Check::LinkRatio => "5.5.6r",

@@ -1,6 +1,6 @@
 //! What point-loaded beams are compared on (document 02, wish 3).
 
-use super::{refused, together, Outcome};
+use super::{members, refused, Outcome};
 use crate::branches::{Entry, ENTRIES};
 use crate::comparison::{Checker, Comparison};
 use crate::make::flaws::flaw;
@@ -32,18 +32,6 @@ pub fn point_loads<C: Checker>(
         members(comparison, random, points::turning(&random_beam(random)))?;
     }
     Ok(())
-}
-
-/// Members alone as built ones, together in schedules.
-fn members<C: Checker>(
-    comparison: &mut Comparison<C>,
-    random: &Random,
-    records: Vec<Record>,
-) -> Outcome {
-    for record in &records {
-        comparison.built(record)?;
-    }
-    together(comparison, random, records)
 }
 
 /// A member that every entry is to refuse by this question, or to accept, where it is 0.

@@ -1,29 +1,43 @@
 -- `beam::from_shear` meets its contract.
-use Rattle.beam.proofs.Chain.{shear-holds, shear-fails}
+use mathlib.Core.Path.{sym, _∙_}
 use borrow.Author.Needs.{needs}
+use Rattle.beam.specs.Checks.{fromShear}
 use Rattle.beam.proofs.from_shear.Statement.{statement}
 use Rattle.beam.proofs.from_shear.Tie as tie
 
 returns : tie.Need-returns
+unfolding fromShear
 returns c =
-    let k = c .before .before in
-    let n = k .before in
-    shear-holds _ _ _ _ (rw (n .before .shear-capacity .ensures) at (n .in-newtons .ensures)) (rw (k .in-newtons2 .ensures) at (c .before .if1 .taken)) (c .from-spacing .ensures)
+    let t = c .before in
+    rw (sym (t .before .before .check-shear .ensures .result-is) ∙ t .enum-told .given .1) (c .one-figure .ensures)
 
 returns-2 : tie.Need-returns-2
+unfolding fromShear
 returns-2 c =
-    let k = c .before .before in
-    let n = k .before in
-    shear-fails _ _ _ _ (rw (n .before .shear-capacity .ensures) at (n .in-newtons .ensures)) (rw (k .in-newtons2 .ensures) at (c .before .if1 .left)) (c .two-figures .ensures)
+    let n = c .before in
+    let t = n .before .before in
+    rw (sym (t .before .before .check-shear .ensures .result-is) ∙ t .shear .given .1, ← n .in-newtons .ensures) (c .two-figures .ensures)
+
+returns-3 : tie.Need-returns-3
+unfolding fromShear
+returns-3 c =
+    let n = c .before in
+    let t = n .before .before in
+    rw (sym (t .before .before .check-shear .ensures .result-is) ∙ t .shear2 .given .1, ← n .in-newtons2 .ensures) (c .from-spacing .ensures)
 
 pub from-shear-spec : {M : Type 1} → statement M
 from-shear-spec =
     tie.close
     (tie.spec
     (λ c κs. search needs)
+    (λ c. search needs)
+    (λ c κs. search needs)
+    (λ c. search needs)
     (λ c κs. search needs)
     (λ c κs. search needs)
+    (λ c. search needs)
     (λ c κs. search needs)
     (λ c κs. search needs)
     returns
-    returns-2)
+    returns-2
+    returns-3)

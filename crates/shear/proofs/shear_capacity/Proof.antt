@@ -9,7 +9,7 @@ use Rattle.shear.proofs.shear_capacity.Tie as tie
 plus-requires : tie.Need-plus-requires
 plus-requires c κs =
     let s = c .before .before in
-    rw (c .before .concrete-shear .ensures, c .link-shear .ensures) (omega (arith, concrete-most (s .pre), links-most (s .pre)))
+    rw (c .before .concrete-shear .ensures, c .link-shear .ensures) (omega (arith, concrete-most (s .pre .0), links-most (s .pre .0)))
 
 returns : tie.Need-returns
 unfolding shearCapacity

@@ -59,6 +59,11 @@ fn refused(members: &[Record], random: &Random) -> Vec<Vec<u32>> {
     lists
 }
 
+/// All of these members.
+pub fn together(members: &[Record], random: &Random) -> Vec<u8> {
+    bytes(&of_records(members, random))
+}
+
 /// Each member alone, all of them, none; each number of groups and of a number's bytes; marks that
 /// rise or not; refused ones; words and bytes left over.
 pub fn lists(members: &[Record], random: &Random) -> Vec<Vec<u8>> {
