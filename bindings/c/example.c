@@ -1,7 +1,7 @@
 /* Document 01's beam 1 built by a caller: its line, its utilizations and the totals of its bars. Then the schedule on standard
  * input, reported. Then document 01's three members held as records: written, compared with standard input, reported; and
  * what the writer refuses. Then beam 1 as a point-loaded beam, built and held; with
- * Mq up to M and above; with V above what its web bears. */
+ * Mq up to M and above; with V above what its web bears; of the strongest concrete that there is, and of one beyond. */
 #include <inttypes.h>
 #include <stdio.h>
 #include <string.h>
@@ -180,6 +180,20 @@ static void show_web(uint8_t *out, size_t out_length) {
     }
 }
 
+static void show_grades(uint8_t *out, size_t out_length) {
+    static uint8_t file[KOXALTES_LONGEST_FILE];
+    koxaltes_member m = beam();
+    m.fields[KOXALTES_BEAM_CONCRETE] = 80;
+    print(koxaltes_member_report(m, tension, 1, none, 0, out, out_length), out);
+    koxaltes_record r = records[1];
+    r.fields.column.concrete = 80;
+    koxaltes_answer a = koxaltes_write_records(&r, 1, file, sizeof file);
+    print(a.question == KOXALTES_ACCEPTED ? koxaltes_report(file, a.length, out, out_length) : a, out);
+    /* no such grade: KOXALTES_REFUSED_FIELD */
+    m.fields[KOXALTES_BEAM_CONCRETE] = 85;
+    print(koxaltes_member_report(m, tension, 1, none, 0, out, out_length), out);
+}
+
 int main(void) {
     /* one byte more than a schedule may have, so that a longer one is refused and not cut */
     static uint8_t schedule[KOXALTES_LONGEST_SCHEDULE + 1];
@@ -191,5 +205,6 @@ int main(void) {
     show_point_load(out, sizeof out);
     show_moments(out, sizeof out);
     show_web(out, sizeof out);
+    show_grades(out, sizeof out);
     return 0;
 }

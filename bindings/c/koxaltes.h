@@ -23,11 +23,11 @@
  * PATCH: nothing of this changed. MINOR: something was added, and what a program did before still gives what it gave.
  * MAJOR: something changed or went; compile again and read the manual again. While MAJOR is 0, a new MINOR may do the same.
  * A program meets an added question or word as a number or word that it does not know, and must take it for a refusal or for
- * a failed check. An added kind is accepted where it was refused as unknown, and a limit may grow with it. The archive does
- * not hold its version: use the header and the archive of one checkout. */
-#define KOXALTES_VERSION "0.5.0"
+ * a failed check. An added kind, or an added value of a field, is accepted where it was refused, and a limit may grow with it.
+ * The archive does not hold its version: use the header and the archive of one checkout. */
+#define KOXALTES_VERSION "0.6.0"
 #define KOXALTES_VERSION_MAJOR 0
-#define KOXALTES_VERSION_MINOR 5
+#define KOXALTES_VERSION_MINOR 6
 #define KOXALTES_VERSION_PATCH 0
 
 #ifdef __cplusplus
@@ -77,7 +77,8 @@ enum { KOXALTES_BEAM = 1, KOXALTES_COLUMN = 2, KOXALTES_MESH = 3, KOXALTES_POINT
 
 enum { KOXALTES_FIELDS = 24 };
 
-/* Places in `fields`, by kind; those of a beam serve both kinds of beams. Lengths in mm, M and MQ in N m, V and N in N. */
+/* Places in `fields`, by kind; those of a beam serve both kinds of beams. Lengths in mm, M and MQ in N m, V and N in N.
+ * Concrete is a grade, 20 to 80 in steps of five. */
 enum {
     KOXALTES_BEAM_B,
     KOXALTES_BEAM_H,
@@ -143,7 +144,7 @@ typedef struct {
  * four. Slots past a count and past the kind's last field have no effect. The structs below name the slots of each kind. */
 enum { KOXALTES_SLOTS = 40, KOXALTES_RECORD_WORDS = 42 };
 
-/* Lengths in mm, m and mq in N m, v and n in N. */
+/* Lengths in mm, m and mq in N m, v and n in N. Concrete is a grade, 20 to 80 in steps of five. */
 typedef struct {
     uint32_t b;
     uint32_t h;

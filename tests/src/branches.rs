@@ -1,5 +1,6 @@
 //! Which cases of document 01 the compared members reached, and of what the requests add.
 
+mod grades;
 mod moments;
 mod points;
 mod webs;
@@ -7,7 +8,7 @@ mod written;
 
 use std::collections::BTreeMap;
 
-use crate::make::beams::around;
+use crate::make::beams::{around, GRADES};
 use crate::make::hunts::turns_on_u;
 use crate::model::beam::Beam;
 use crate::model::column::Column;
@@ -15,6 +16,7 @@ use crate::model::member::{Body, Member};
 use crate::model::mesh::{Mesh, SCALE};
 use crate::model::outcome::{Check, Outcome};
 
+pub use grades::required_of_grades;
 pub use moments::required_of_moments;
 pub use points::{point_load_cases, required_of_point_loads};
 pub use webs::required_of_webs;
@@ -80,13 +82,20 @@ impl Tally {
         match &member.body {
             Body::Beam(beam) => {
                 self.web(beam, outcome);
+                self.grade_of_beam(beam, outcome);
                 match beam.load_distance {
                     Some(distance) => self.point_loaded(beam, distance, outcome),
                     None => self.beam(beam, outcome),
                 }
             }
-            Body::Column(column) => self.column(column, outcome),
-            Body::Mesh(mesh) => self.mesh(mesh, outcome),
+            Body::Column(column) => {
+                self.grade_of_column(column, outcome);
+                self.column(column, outcome);
+            }
+            Body::Mesh(mesh) => {
+                self.grade_of_mesh(mesh, outcome);
+                self.mesh(mesh, outcome);
+            }
         }
     }
 
@@ -132,11 +141,12 @@ impl Tally {
 
     fn moment(&mut self, beam: &Beam, capacity: u64) {
         self.add_if(beam.moment_quasi == beam.moment, "Mq at M", 0);
-        let net = beam.net_force();
+        let net = 100 * beam.net_force();
         let edge = (2 * beam.cover_compression * beam.block_force()) as i64;
         let doubled = beam.compression.groups > 0;
-        let depth = (beam.steel.depth * beam.h0() * beam.block_force()) as i64;
-        self.add_if(100 * net == depth, "4.2.2-3 at", 0);
+        let (upper, lower) = beam.parameters().depth;
+        let depth = (upper * beam.h0() * beam.block_force()) as i64;
+        self.add_if(lower as i64 * net == depth, "4.2.2-3 at", 0);
         self.add_if(!doubled, "4.2.2 without compression bars", 0);
         self.add_if(doubled && net > edge, "4.2.2 with compression bars", 0);
         self.add_if(doubled && net == edge, "4.2.2 at t = 2a'k", 0);
@@ -344,6 +354,11 @@ fn mesh_row(mesh: &Mesh, cross_bar: bool) -> u64 {
     1000 * mesh.family + 100 * u64::from(cross_bar) + mesh.concrete.grade.min(40)
 }
 
+/// Every grade.
+fn grades() -> [u64; 13] {
+    GRADES.map(u64::from)
+}
+
 /// Every case of the kinds 1 to 3 that a comparison is to reach.
 pub fn required() -> Vec<Case> {
     let mut cases: Vec<Case> = Check::ALL.iter().map(|check| (check.name(), 0)).collect();
@@ -393,7 +408,7 @@ fn put_beam_cases(put: &mut impl FnMut(&'static str, &[u64])) {
     put("4.4.1 more above, compression bars", &[0, 1]);
     put("steel code, fyk", &[400, 500]);
     put("link steel, fyv", &[270, 360]);
-    put("beam concrete", &[20, 25, 30, 35, 40, 45, 50]);
+    put("beam concrete", &grades());
     put("tension groups", &[1, 2, 3, 4]);
     put("compression groups", &[0, 1, 2, 3, 4]);
     put("5.5.6s links needed, at", &[300, 500, 800, 801]);
@@ -431,7 +446,7 @@ fn put_column_cases(put: &mut impl FnMut(&'static str, &[u64])) {
         put(about, &[0, 1]);
     }
     put("column groups", &[1, 2, 3, 4]);
-    put("column concrete", &[20, 25, 30, 35, 40, 45, 50]);
+    put("column concrete", &grades());
     put("axial strength", &[360, 400]);
     put("phi below l0/b", &[8]);
     let points: Vec<u64> = (4..=25).map(|half| 2 * half).collect();

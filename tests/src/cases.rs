@@ -1,5 +1,6 @@
 //! Document 01's printed schedule and tabled cases, and what the requests add.
 
+mod grades;
 mod moments;
 mod points;
 mod webs;

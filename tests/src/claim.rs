@@ -83,14 +83,43 @@ fn steel_area(tenths: u64) -> Fraction {
     of(tenths, 10)
 }
 
+/// How far a grade is above C50; C80 is 30 above it.
+fn above(beam: &Beam) -> u64 {
+    beam.concrete.grade.max(50) - 50
+}
+
+/// α1: 1.00 up to C50, then 0.01 less each grade (document 02, wish 7).
+fn stress_factor(beam: &Beam) -> Fraction {
+    whole(1) - of(1, 100) * of(above(beam), 5)
+}
+
+/// A number that is `start` up to C50 and goes straight to `end` at C80.
+fn straight(beam: &Beam, start: Fraction, end: Fraction) -> Fraction {
+    start.clone() - (start - end) * of(above(beam), 80 - 50)
+}
+
+/// What 4.2.2-3 allows of h0: the steel's e up to C50, above β1/(1 + fy/(Es·εcu)) (GB 6.2.7).
+fn depth_limit(beam: &Beam) -> Fraction {
+    if beam.concrete.grade <= 50 {
+        return of(beam.steel.depth, 100);
+    }
+    let block_depth = straight(beam, of(80, 100), of(74, 100));
+    let strain = of(33, 10_000) - of(above(beam), 100_000);
+    block_depth / (whole(1) + whole(beam.steel.fy) / (whole(ES) * strain))
+}
+
+/// k = α1·fc·b, N/mm of compression depth.
+fn block_force(beam: &Beam) -> Fraction {
+    stress_factor(beam) * of(beam.concrete.fc, 10) * whole(beam.b)
+}
+
 /// 4.2.2 or 4.2.3, N·m.
 fn moment(beam: &Beam) -> (&'static str, Fraction) {
     let fy = whole(beam.steel.fy);
     let force = |tenths| fy.clone() * steel_area(tenths);
     let compression = force(beam.compression.area);
     let net = force(beam.tension.area) - compression.clone();
-    // N/mm of compression depth.
-    let block = of(beam.concrete.fc, 10) * whole(beam.b);
+    let block = block_force(beam);
     let h0 = whole(beam.h0());
     let edge = whole(beam.cover_compression);
     let lever = h0.clone() - edge.clone();
@@ -136,10 +165,11 @@ fn web_factor(beam: &Beam) -> Fraction {
     }
 }
 
-/// 6.3.1v: V at most β·fc·b·h0.
+/// 6.3.1v: V at most β·βc·fc·b·h0, βc 1 up to C50, straight to 0.8 at C80 (document 02, wish 7).
 fn web_holds(beam: &Beam) -> bool {
     let section = of(beam.concrete.fc, 10) * whole(beam.b) * whole(beam.h0());
-    whole(beam.shear) <= web_factor(beam) * section
+    let concrete = straight(beam, whole(1), of(8, 10));
+    whole(beam.shear) <= web_factor(beam) * concrete * section
 }
 
 /// Whether a member is a beam that fails 6.3.1v. No later check is reached then, so none has a figure or a share.
@@ -219,7 +249,7 @@ fn plain_of_beam(beam: &Beam) -> Vec<Plain> {
     let gross = whole(beam.b * beam.h + (beam.bf - beam.b) * beam.hf);
     let tension = area.clone() * whole(beam.steel.fy);
     let net = tension.clone() - steel_area(beam.compression.area) * whole(beam.steel.fy);
-    let depth = net / (of(beam.concrete.fc, 10) * whole(beam.b));
+    let depth = net / block_force(beam);
     let concrete = of(7, 10) * ft.clone() * whole(beam.b) * whole(beam.h0());
     let needed = whole(beam.shear) > concrete;
     let links = whole(beam.legs) * steel_area(tables::area(beam.link_diameter).unwrap());
@@ -228,7 +258,7 @@ fn plain_of_beam(beam: &Beam) -> Vec<Plain> {
     let plain = |name, holds| Plain { name, holds };
     vec![
         plain("6.3.1", area >= of(2, 1000) * gross.clone() && tension >= of(45, 100) * ft * gross),
-        plain("4.2.2-3", depth <= of(beam.steel.depth, 100) * whole(beam.h0())),
+        plain("4.2.2-3", depth <= depth_limit(beam) * whole(beam.h0())),
         plain("6.3.1v", web_holds(beam)),
         plain("5.5.6s", beam.spacing <= spacing_limit(beam, needed)),
         plain("5.5.6r", !needed || links >= least),

@@ -1,5 +1,6 @@
 //! The comparison and the claim notice what they are there to notice.
 
+mod grades;
 mod moments;
 mod points;
 mod webs;
@@ -9,8 +10,8 @@ use std::os::unix::process::ExitStatusExt;
 use std::process::Command;
 
 use crate::branches::{
-    required, required_of_moments, required_of_point_loads, required_of_webs, required_of_writer,
-    Entry,
+    required, required_of_grades, required_of_moments, required_of_point_loads, required_of_webs,
+    required_of_writer, Entry,
 };
 use crate::claim::check_line;
 use crate::comparison::{Checker, Comparison, Model};
@@ -258,6 +259,7 @@ fn the_model_equals_itself_and_meets_demand_3() {
     assert_eq!(comparison.tally.missing(required_of_point_loads()), Vec::new());
     assert_eq!(comparison.tally.missing(required_of_moments()), Vec::new());
     assert_eq!(comparison.tally.missing(required_of_webs()), Vec::new());
+    assert_eq!(comparison.tally.missing(required_of_grades()), Vec::new());
     assert_eq!(comparison.writer_tally.missing(required_of_writer()), Vec::new());
     assert!(comparison.totals_answers[0] > 0 && comparison.totals_answers[7] > 0);
 }

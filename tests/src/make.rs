@@ -7,6 +7,7 @@ pub mod damage;
 pub mod edges;
 pub mod equalities;
 pub mod flaws;
+pub mod grades;
 pub mod hunts;
 pub mod lists;
 pub mod meshes;

@@ -1,5 +1,6 @@
 //! What a comparison is run on.
 
+pub mod grades;
 pub mod moments;
 pub mod points;
 pub mod webs;
@@ -39,7 +40,8 @@ pub fn all<C: Checker>(
     written::lists(comparison, random, 6000 * multiplier)?;
     every_cover(comparison, random)?;
     moments::moments(comparison, random, 20 * multiplier)?;
-    webs::webs(comparison, random, 1000 * multiplier)
+    webs::webs(comparison, random, 1000 * multiplier)?;
+    grades::grades(comparison, random, 1000 * multiplier)
 }
 
 /// A short run that still reaches every case.
@@ -56,7 +58,8 @@ pub fn quick<C: Checker>(comparison: &mut Comparison<C>, random: &Random) -> Out
     written::lists(comparison, random, 100)?;
     every_cover(comparison, random)?;
     moments::moments(comparison, random, 2)?;
-    webs::webs(comparison, random, 20)
+    webs::webs(comparison, random, 20)?;
+    grades::grades(comparison, random, 20)
 }
 
 /// Schedules of few members, accepted or not.

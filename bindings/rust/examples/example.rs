@@ -1,7 +1,7 @@
 //! Document 01's beam 1 built by a caller: its line, its utilizations and the totals of its bars. Then the schedule on standard
 //! input, reported. Then document 01's three members held as records: written, compared with standard input, reported; and
 //! what the writer refuses. Then beam 1 as a point-loaded beam, built and held; with
-//! Mq up to M and above; with V above what its web bears.
+//! Mq up to M and above; with V above what its web bears; of the strongest concrete that there is, and of one beyond.
 
 use koxaltes::{
     Beam, Column, Group, Mesh, PointLoadedBeam, Question, Record, Refusal, LONGEST_FILE,
@@ -153,6 +153,21 @@ fn show_web(out: &mut [u8]) {
     }
 }
 
+/// The strongest concrete that there is, and one beyond.
+fn show_grades(out: &mut [u8]) {
+    let mut buffer = [0; LONGEST_FILE];
+    let strongest = Beam { concrete: 80, ..BEAM };
+    print(koxaltes::member_report(&strongest.member(1), &TENSION, &[], out));
+    let column = Column { concrete: 80, ..COLUMN };
+    let answer = koxaltes::write_schedule(&[column.record(2, &COLUMN_BARS)], &mut buffer);
+    print(answer.and_then(|file| koxaltes::report(file, out)));
+    // no such grade
+    let beyond = Beam { concrete: 85, ..BEAM };
+    let answer = koxaltes::member_report(&beyond.member(1), &TENSION, &[], out);
+    assert_eq!(answer.err().and_then(|r| r.named()), Some(Question::Field));
+    print(answer);
+}
+
 fn main() {
     let mut out = [0; LONGEST_REPORT];
     show_member(&mut out);
@@ -165,4 +180,5 @@ fn main() {
     show_point_load(&mut out);
     show_moments(&mut out);
     show_web(&mut out);
+    show_grades(&mut out);
 }

@@ -51,7 +51,7 @@ section-way : (x : Section) → Bounded x → WayOut x (sectionOutcome x)
 unfolding sectionOutcome fromDepth fromBending fromShear fromSpacing fromLeastLinks fromStress fromWidth fromDeflection
 section-way x a =
     settled-case (WayOut x) (least-steel-reflects x) (λ n. no-figure (failed refl (least-steel n))) λ p-steel.
-    settled-case (WayOut x) (depth-reflects x) (λ n. no-figure (failed refl (depth n))) λ p-depth.
+    settled-case (WayOut x) (depth-reflects a) (λ n. no-figure (failed refl (depth n))) λ p-depth.
     settled-case (WayOut x) (capacity-settles (M x) (moment-safe a)) (λ n. to-moment (if-case (BeamSays x) (compressionYields x) _ _
     (λ d. failed refl (bending (yields-is a ∙ d) n))
     (λ d. failed refl (couple-bending (yields-is a ∙ d) n)))) λ p-bending.

@@ -1,25 +1,35 @@
 -- The moment capacity: how the code works it out, and how large it is.
-use Prim.Native.Nat.{ℕ, _+_, _-_, _*_, _≤_}
+use Prim.Native.Nat.{ℕ, _+_, _-_, _*_, _≤_, _<_}
 use mathlib.Core.Path.{_≡_}
 use mathlib.Core.Bool.{true}
-use native.Mathlib.Nat.{mul-assoc, mul-le-mul-left, mul-le-mul-right}
+use native.Mathlib.Nat.{mul-le-mul-left, mul-le-mul-right, le-of-mul-le-mul-right}
+use native.Mathlib.Decide.{decLe}
 use native.Mathlib.Omega.{arith}
 use Rattle.quantity.proofs.Product.{product-most}
 use Rattle.quantity.specs.Rounding.{up, down}
 use Rattle.quantity.proofs.Choice.{if-case}
 use Rattle.quantity.proofs.Rounding.{expand, up-le, down-le, down-minus-up}
 use Rattle.section.specs.declared.Section.{Section}
-use Rattle.section.specs.Section.{h₀, a′, e}
+use Rattle.section.specs.Section.{h₀, a′, ξb}
 use Rattle.section.specs.Bounded.{Bounded}
 use Rattle.bending.specs.Steps.{tensionForce, compressionForce, t, k, steelMoment, compressionDepth, compressionYields, yieldedCapacity, coupleCapacity, bendingCapacity}
 use Rattle.bending.proofs.Bounds.{sizes}
-use Rattle.bending.proofs.Tests.{depth-reflects, yields-tension}
+use Rattle.bending.proofs.Tests.{depth-compared, yields-tension}
 
--- On plain numbers: p and q are the forces of the tension and compression steel, g = h0 - a'.
-depth-core : (p q k h e : ℕ) → e ≤ 100 → 100 * p ≤ e * h * k + 100 * q → p - q ≤ h * k
-depth-core p q k h e a b = omega (arith, simp mul-assoc at b, mul-le-mul-right (h * k) a)
+-- On plain numbers: p and q are the forces of the tension and compression steel, t their difference, n/d the depth limit, g = h0 - a'.
+depth-scaled : (q t k h n d : ℕ) → n ≤ d → 100 * d * (q + t) ≤ n * h * k + 100 * d * q → 100 * t * d ≤ h * k * d
+depth-scaled q t k h n d a b = simp expand (omega (arith, simp expand at b, simp expand at (mul-le-mul-right (h * k) a)))
 
-square-core : (t k h y : ℕ) → t ≤ h * k → t * t ≤ (t * h + y) * (2 * k)
+depth-core : (p q k h n d : ℕ) → n < d → 100 * d * p ≤ n * h * k + 100 * d * q → 100 * (p - q) ≤ h * k
+depth-core p q k h n d a b = go (decLe q p)
+  where
+    go : Dec (q ≤ p) → 100 * (p - q) ≤ h * k
+    go (yes l) =
+        let e : p ≡ q + (p - q) = omega arith in
+        le-of-mul-le-mul-right (depth-scaled q (p - q) k h n d (omega arith) (rw (← e) b)) (omega arith)
+    go (no l) = omega arith
+
+square-core : (t k h y : ℕ) → 100 * t ≤ h * k → 50 * (t * t) ≤ (t * h + y) * k
 square-core t k h y a = simp expand (omega (arith, simp expand at (mul-le-mul-left t a)))
 
 steel-core : (p q h g : ℕ) → q ≤ p → g ≤ h → p ≤ 480000000 → h ≤ 2000 → (p - q) * h + q * g ≤ 960000000000
@@ -30,17 +40,17 @@ steel-core p q h g a b u v =
 
 module _ {x : Section} (p : Bounded x) (d : compressionDepth x ≡ true) where
   -- Nothing is cut off at 0 where t²/(2k) is taken off, also where it is rounded up first.
-  pub square-within : t x * t x ≤ steelMoment x * (2 * k x)
+  pub square-within : 50 * (t x * t x) ≤ steelMoment x * k x
   square-within =
       square-core (t x) (k x) (h₀ x) (compressionForce x * (h₀ x - a′ x))
-      (depth-core (tensionForce x) (compressionForce x) (k x) (h₀ x) (e x) (p .steel .depthLimit) (depth-reflects x .holds d))
+      (depth-core (tensionForce x) (compressionForce x) (k x) (h₀ x) (ξb x .num) (ξb x .den) (p .parameters .depth-below) (depth-compared x d))
 
-  pub rounded-within : up (t x * t x) (2 * k x) ≤ steelMoment x
+  pub rounded-within : up (50 * (t x * t x)) (k x) ≤ steelMoment x
   rounded-within = up-le (omega (arith, sizes p)) square-within
 
-  pub yielded-value : yieldedCapacity x ≡ down (steelMoment x - up (t x * t x) (2 * k x)) 10000
+  pub yielded-value : yieldedCapacity x ≡ down (steelMoment x - up (50 * (t x * t x)) (k x)) 10000
   unfolding yieldedCapacity
-  yielded-value = down-minus-up (steelMoment x) (t x * t x) (omega (arith, sizes p)) (omega arith) square-within
+  yielded-value = down-minus-up (steelMoment x) (50 * (t x * t x)) (omega (arith, sizes p)) (omega arith) square-within
 
 module _ {x : Section} (p : Bounded x) where
   pub steel-most : compressionYields x ≡ true → steelMoment x ≤ 960000000000
@@ -52,5 +62,5 @@ module _ {x : Section} (p : Bounded x) where
   unfolding bendingCapacity yieldedCapacity coupleCapacity
   capacity-most =
       if-case (λ (n : ℕ). n ≤ 96000000) (compressionYields x) _ _
-      (λ s. down-le (omega (arith, sizes p)) (omega (arith, mul-le-mul-right (2 * k x) (steel-most s))))
+      (λ s. down-le (omega (arith, sizes p)) (omega (arith, mul-le-mul-right (k x) (steel-most s))))
       (λ s. down-le (omega arith) (sizes p .couple))

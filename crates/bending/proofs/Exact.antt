@@ -2,34 +2,33 @@
 use Prim.Native.Nat.{ℕ, _+_, _-_, _*_, _<_}
 use mathlib.Core.Path.{_≡_, sym, ap, _∙_}
 use mathlib.Core.Bool.{Bool, true, false, _||_}
-use native.Mathlib.Nat.{mul-pos, le-of-mul-le-mul-right, mul-le-mul-right}
+use native.Mathlib.Nat.{mul-pos, mul-le-mul-right}
 use native.Mathlib.Omega.{arith}
-use lib.Dec.{leb, eqb}
+use lib.Dec.{eqb}
 use Rattle.quantity.specs.Choice.{if_then_else_}
-use Rattle.quantity.specs.Fraction.{Frac, _//_, whole, _⊕_, _⊖_, _⊗_, _⊘_, _≼_}
+use Rattle.quantity.specs.Fraction.{_//_, whole, _⊕_, _⊖_, _⊗_, _⊘_, _≼_}
 use Rattle.quantity.specs.Safe.{NotAbove}
 use Rattle.quantity.specs.Unit.{exactStress}
 use Rattle.quantity.proofs.Fraction.{level, Same, same-refl, same-sym, same-trans, same-sum, same-difference, same-product, same-quotient, same-≼, ≼-same}
-use Rattle.quantity.proofs.Unit.{exact-units, exact-tenths}
-use Rattle.quantity.proofs.Reflects.{same-le}
 use Rattle.quantity.proofs.Rounding.{expand}
 use Rattle.quantity.proofs.Safe.{down-not-above, same-not-above}
 use Rattle.section.specs.declared.Section.{Section}
-use Rattle.section.specs.Section.{b, h₀, a′, S, S′}
+use Rattle.section.specs.Section.{h₀, a′, S′}
 use Rattle.section.specs.Bounded.{Bounded}
 use Rattle.bending.specs.Steps.{tensionForce, compressionForce, t, k, steelMoment, compressionDepth, compressionYields, yieldedCapacity, coupleCapacity, bendingCapacity}
-use Rattle.bending.specs.Exact.{T, C, K, atMost, yields, yieldedMoment, coupleMoment, exactMoment}
+use Rattle.bending.specs.Exact.{T, C, K, yields, yieldedMoment, coupleMoment, exactMoment}
 use Rattle.bending.proofs.Bounds.{sizes}
+use Rattle.bending.proofs.Forces.{at-most-same, T-same, C-same, K-same, tension-over}
 use Rattle.bending.proofs.Tests.{yields-tension}
 use Rattle.bending.proofs.Capacity.{square-within}
 
--- ---- Forces in tenths of N: their differences, sums and products.
+-- ---- Forces in tenths of N, k in thousandths: their differences, sums and products.
 
 difference-tenths : (p q : ℕ) → Same (p // 10 ⊖ q // 10) ((p - q) // 10)
 unfolding _⊖_
 difference-tenths p q = record { pos = omega arith; pos′ = omega arith; same = omega arith }
 
-sum-tenths : (q n k : ℕ) → Same (q // 10 ⊕ whole n ⊗ (k // 10)) ((q + n * k) // 10)
+sum-tenths : (q n k : ℕ) → Same (q // 10 ⊕ whole n ⊗ (k // 1000)) ((100 * q + n * k) // 1000)
 unfolding _⊕_ _⊗_
 sum-tenths q n k = record { pos = omega arith; pos′ = omega arith; same = omega arith }
 
@@ -37,11 +36,11 @@ moment-tenths : (t h q g : ℕ) → Same (t // 10 ⊗ whole h ⊕ q // 10 ⊗ wh
 unfolding _⊕_ _⊗_
 moment-tenths t h q g = record { pos = omega arith; pos′ = omega arith; same = omega arith }
 
-square-tenths : (t k : ℕ) → 0 < k → Same (t // 10 ⊗ (t // 10) ⊘ (whole 2 ⊗ (k // 10))) ((t * t) // (20 * k))
+square-tenths : (t k : ℕ) → 0 < k → Same (t // 10 ⊗ (t // 10) ⊘ (whole 2 ⊗ (k // 1000))) ((50 * (t * t)) // (10 * k))
 unfolding _⊗_ _⊘_
 square-tenths t k p = record { pos = omega arith; pos′ = omega arith; same = simp expand (omega arith) }
 
-yielded-tenths : (m y k : ℕ) → 0 < k → Same ((m // 10 ⊖ y // (20 * k)) ⊘ whole 1000) ((m * (2 * k) - y) // (2 * k * 10000))
+yielded-tenths : (m y k : ℕ) → 0 < k → Same ((m // 10 ⊖ y // (10 * k)) ⊘ whole 1000) ((m * k - y) // (k * 10000))
 unfolding _⊖_ _⊘_
 yielded-tenths m y k p = record { pos = omega arith; pos′ = omega arith; same = simp level (omega arith) }
 
@@ -49,75 +48,54 @@ couple-tenths : (p g : ℕ) → Same (p // 10 ⊗ whole g ⊘ whole 1000) ((p * 
 unfolding _⊗_ _⊘_
 couple-tenths p g = record { pos = omega arith; pos′ = omega arith; same = omega arith }
 
--- ---- A comparison of two fractions by their numerators over one denominator.
-
-at-most-same : {a b : Frac} (p q d : ℕ) → Same a (p // d) → Same b (q // d) → atMost a b ≡ leb p q
-at-most-same {a} {b} p q d u v =
-    same-le (a .num * b .den) (b .num * a .den) p q
-    (λ h. le-of-mul-le-mul-right (≼-same (p // d) v (same-≼ b u h)) (u .pos′))
-    (λ h. ≼-same a (same-sym v) (same-≼ (q // d) (same-sym u) (mul-le-mul-right d h)))
-
 module _ {x : Section} (p : Bounded x) where
-  -- Forces in N are those of the steps in tenths of N.
-  T-same : Same (T x) (tensionForce x // 10)
-  unfolding T _⊗_
-  T-same = same-product (exact-units (x .steel .fy) (p .steel .fy .exact)) (same-refl (S x // 10) (omega arith))
-
-  C-same : Same (C x) (compressionForce x // 10)
-  unfolding C _⊗_
-  C-same = same-product (exact-units (x .steel .fyc) (p .steel .fyc .exact)) (same-refl (S′ x // 10) (omega arith))
-
-  K-same : Same (K x) (k x // 10)
-  unfolding K _⊗_
-  K-same = same-product (exact-tenths (x .concrete .fc) (p .concrete .fc-exact)) (same-refl (whole (b x)) (omega arith))
-
   t-same : Same (T x ⊖ C x) (t x // 10)
-  t-same = same-trans (same-difference T-same C-same) (difference-tenths (tensionForce x) (compressionForce x))
+  t-same = same-trans (same-difference (T-same p) (C-same p)) (difference-tenths (tensionForce x) (compressionForce x))
 
   -- Both definitions pick the same case.
   pub yields-is : yields x ≡ compressionYields x
   unfolding yields compressionYields
   yields-is =
-      ap (λ (c : Bool). eqb (S′ x) 0 || c) (at-most-same (compressionForce x + 2 * a′ x * k x) (tensionForce x) 10
-      (same-trans (same-sum C-same (same-product (same-refl (whole (2 * a′ x)) (omega arith)) K-same)) (sum-tenths (compressionForce x) (2 * a′ x) (k x)))
-      T-same)
+      ap (λ (c : Bool). eqb (S′ x) 0 || c) (at-most-same (100 * compressionForce x + 2 * a′ x * k x) (100 * tensionForce x) 1000
+      (same-trans (same-sum (C-same p) (same-product (same-refl (whole (2 * a′ x)) (omega arith)) (K-same p))) (sum-tenths (compressionForce x) (2 * a′ x) (k x)))
+      (tension-over p 1 (omega arith)))
 
   moment-same : Same ((T x ⊖ C x) ⊗ whole (h₀ x) ⊕ C x ⊗ whole (h₀ x - a′ x)) (steelMoment x // 10)
   moment-same =
       same-trans
       (same-sum
       (same-product t-same (same-refl (whole (h₀ x)) (omega arith)))
-      (same-product C-same (same-refl (whole (h₀ x - a′ x)) (omega arith))))
+      (same-product (C-same p) (same-refl (whole (h₀ x - a′ x)) (omega arith))))
       (moment-tenths (t x) (h₀ x) (compressionForce x) (h₀ x - a′ x))
 
   doubled : 0 < (whole 2 ⊗ K x) .num
   unfolding _⊗_ K exactStress
-  doubled = mul-pos (omega arith) (mul-pos (omega (arith, p .concrete)) (omega arith))
+  doubled = mul-pos (omega arith) (mul-pos (mul-pos (p .parameters .stress-least) (omega (arith, p .concrete))) (omega arith))
 
-  square-same : Same ((T x ⊖ C x) ⊗ (T x ⊖ C x) ⊘ (whole 2 ⊗ K x)) ((t x * t x) // (20 * k x))
+  square-same : Same ((T x ⊖ C x) ⊗ (T x ⊖ C x) ⊘ (whole 2 ⊗ K x)) ((50 * (t x * t x)) // (10 * k x))
   unfolding _⊗_
   square-same =
       same-trans
-      (same-quotient (same-product t-same t-same) (same-product (same-refl (whole 2) (omega arith)) K-same) (doubled, omega (arith, sizes p)))
+      (same-quotient (same-product t-same t-same) (same-product (same-refl (whole 2) (omega arith)) (K-same p)) (doubled, omega (arith, sizes p)))
       (square-tenths (t x) (k x) (sizes p .block-least))
 
-  yielded-same : Same (yieldedMoment x) ((steelMoment x * (2 * k x) - t x * t x) // (2 * k x * 10000))
+  yielded-same : Same (yieldedMoment x) ((steelMoment x * k x - 50 * (t x * t x)) // (k x * 10000))
   unfolding yieldedMoment
   yielded-same =
       same-trans
       (same-quotient (same-difference moment-same square-same) (same-refl (whole 1000) (omega arith)) (omega arith))
-      (yielded-tenths (steelMoment x) (t x * t x) (k x) (sizes p .block-least))
+      (yielded-tenths (steelMoment x) (50 * (t x * t x)) (k x) (sizes p .block-least))
 
   couple-same : Same (coupleMoment x) ((tensionForce x * (h₀ x - a′ x)) // 10000)
   unfolding coupleMoment
   couple-same =
       same-trans
-      (same-quotient (same-product T-same (same-refl (whole (h₀ x - a′ x)) (omega arith))) (same-refl (whole 1000) (omega arith)) (omega arith))
+      (same-quotient (same-product (T-same p) (same-refl (whole (h₀ x - a′ x)) (omega arith))) (same-refl (whole 1000) (omega arith)) (omega arith))
       (couple-tenths (tensionForce x) (h₀ x - a′ x))
 
   yielded-safe : NotAbove (yieldedCapacity x) (whole 1) (yieldedMoment x)
   unfolding yieldedCapacity
-  yielded-safe = same-not-above (omega arith) (same-sym yielded-same) (down-not-above _ (2 * k x * 10000) (omega (arith, sizes p)))
+  yielded-safe = same-not-above (omega arith) (same-sym yielded-same) (down-not-above _ (k x * 10000) (omega (arith, sizes p)))
 
   couple-safe : NotAbove (coupleCapacity x) (whole 1) (coupleMoment x)
   unfolding coupleCapacity
@@ -134,7 +112,7 @@ module _ {x : Section} (p : Bounded x) where
   -- Where 4.2.2 applies, the exact figure's differences cut nothing off at 0.
   pub forces-ordered : yields x ≡ true → C x ≼ T x
   forces-ordered d =
-      ≼-same (C x) (same-sym T-same) (same-≼ (tensionForce x // 10) (same-sym C-same) (mul-le-mul-right 10 (yields-tension p (sym yields-is ∙ d))))
+      ≼-same (C x) (same-sym (T-same p)) (same-≼ (tensionForce x // 10) (same-sym (C-same p)) (mul-le-mul-right 10 (yields-tension p (sym yields-is ∙ d))))
 
   pub exact-square-within : compressionDepth x ≡ true →
       (T x ⊖ C x) ⊗ (T x ⊖ C x) ⊘ (whole 2 ⊗ K x) ≼ (T x ⊖ C x) ⊗ whole (h₀ x) ⊕ C x ⊗ whole (h₀ x - a′ x)

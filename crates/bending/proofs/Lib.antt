@@ -1,4 +1,5 @@
 pub mod Bounds
+pub mod Forces
 pub mod Tests
 pub mod Capacity
 pub mod Exact

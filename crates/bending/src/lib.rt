@@ -48,12 +48,12 @@ fn compression_force(x: Section) -> u64
     x.steel.fyc.in_units() * x.compression
 }
 
-// k = fc·b, in tenths of N for each mm of the compression zone's depth.
+// k = α1·fc·b, in thousandths of N for each mm of the compression zone's depth.
 fn block_force_per_mm(x: Section) -> u64
     requires { ⌜ Bounded x ⌝ }
     ensures { λ r. ⌜ r ≡ k x ⌝ }
 {
-    x.concrete.fc.in_tenths() * x.b.in_millimetres()
+    x.parameters.stressFactor * x.concrete.fc.in_tenths() * x.b.in_millimetres()
 }
 
 // 4.2.2-3.
@@ -61,8 +61,9 @@ pub fn compression_depth(x: Section) -> bool
     requires { ⌜ Bounded x ⌝ }
     ensures { λ r. ⌜ r ≡ compressionDepth x ⌝ }
 {
-    let limit = (x.steel.depthLimit as u64) * x.h0.in_millimetres() * block_force_per_mm(x);
-    100 * tension_force(x) <= limit + 100 * compression_force(x)
+    let limit = x.parameters.depthLimit.num * x.h0.in_millimetres() * block_force_per_mm(x);
+    let scale = 100 * x.parameters.depthLimit.den;
+    scale * tension_force(x) <= limit + scale * compression_force(x)
 }
 
 // Whether the compression steel yields: 4.2.2 applies, and not 4.2.3. Without compression steel a' is 0, and the comparison holds.
@@ -70,8 +71,8 @@ pub fn compression_yields(x: Section) -> bool
     requires { ⌜ Bounded x ⌝ }
     ensures { λ r. ⌜ r ≡ compressionYields x ⌝ }
 {
-    let steel = 2 * x.ac.in_millimetres() * block_force_per_mm(x);
-    compression_force(x) + steel <= tension_force(x)
+    let reach = 2 * x.ac.in_millimetres() * block_force_per_mm(x);
+    100 * compression_force(x) + reach <= 100 * tension_force(x)
 }
 
 // h0 - a', in mm.
@@ -97,13 +98,14 @@ fn steel_moment(x: Section) -> u64
     net_tension(x) * x.h0.in_millimetres() + compression_force(x) * lever_arm(x)
 }
 
-// 4.2.2, the compression steel yields. t²/(2k) is rounded up before it is taken off, which leaves the one rounding down the same.
+// 4.2.2, the compression steel yields. t²/(2k) is rounded up before it is taken off, which leaves the one rounding down the same;
+// k counts hundredths of t's unit, so t²/2 is taken 100 times.
 fn yielded_capacity(x: Section) -> u64
     requires { ⌜ Bounded x × (compressionYields x ≡ true) × (compressionDepth x ≡ true) ⌝ }
     ensures { λ r. ⌜ r ≡ yieldedCapacity x ⌝ }
 {
     let t = net_tension(x);
-    let square = div_up(t * t, 2 * block_force_per_mm(x));
+    let square = div_up(50 * (t * t), block_force_per_mm(x));
     div_down(steel_moment(x) - square, 10000)
 }
 

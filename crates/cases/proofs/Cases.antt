@@ -10,6 +10,8 @@ use Rattle.code_tables.specs.Mesh.{multiple}
 use Rattle.code_tables.specs.Slenderness.{point}
 use Rattle.code_tables.specs.Spacing.{spacingLimit}
 use Rattle.material.specs.Steel.{steelOf, fyvOf}
+use Rattle.quantity.specs.Fraction.{_⊕_, _⊘_}
+use Rattle.parameters.specs.Parameters.{stressFactor, webFactor, β₁, εcu, balancedDepth, depthLimit, parametersOf}
 use Rattle.bars.specs.Sums.{barCount, area, sumD, sumE, groupArea, groupDiameters, groupSquares}
 use Rattle.consistency.specs.Consistency.{flangeFits, compressionFits, depthFits, loadFits, beamConsistent, columnConsistent, meshConsistent}
 use Rattle.reinforcement.specs.Reinforcement.{beamBars, beamRatio, columnBars}
@@ -53,7 +55,7 @@ use Rattle.writer.specs.Written.{fileOf}
 use Rattle.cases.specs.Cases.{Table}
 
 pub table : Table
-unfolding fileOf heldMembers recordsOf recordsFrom recordAt recordMembers recordVerdict builtVerdict fieldsVerdict scheduleBytes membersBytes memberNumbers beamNumbers columnNumbers meshNumbers bytesOfAll bytesOf septetsOf parseLine parsedFigure lineOf wordOf split splitMore isDecimal every valueOf valueFrom outputOf reportOf textOf endedBy joinedBy decimal digits lentReportOf lentUtilizationOf lentVerdict lentMember lentBeam lentColumn lentFieldsHold namedHold barTotals numberAt septetsAt lastSeptet schedule members member markAt kindAt markRises markInRange memberBody fields field fieldsOf known kindOf isPresent holds areaOf memberVerdict fieldHolds beamVerdict columnVerdict meshVerdict beamConsistent flangeFits compressionFits depthFits loadFits beamBars beamRatio serviceMomentFits columnConsistent columnBars meshConsistent barCount memberAt beamAt columnAt meshAt beamOutcome sectionOutcome fromDepth fromBending fromShear fromSpacing fromLeastLinks fromStress fromWidth fromDeflection sectionOf concreteOf steelOf fyvOf area sumD sumE groupArea groupDiameters groupSquares leastSteel compressionDepth compressionYields yieldedCapacity coupleCapacity bendingCapacity webHolds shearResult concreteShear linkShear shearCapacity shearAbove linkSpacing leastLinks spacingLimit stressHolds steelStress stiffening meanStress crackSpacing widthOf σ q crackWidth widthLimit flexibility curvature shortTerm longTerm deflectionOf deflection spanDivisor deflectionHolds columnOutcome linksOutcome slendernessOutcome axialOutcome steelFits linksFit slendernessFits axialCapacity stability interval interpolated concreteArea squashLoad point meshOutcome lapOutcome anchorageLength lapLength requiredLap tensionLap basicLength multiple up down clamp beamUtilization columnUtilization meshUtilization overFigure overLimit ratio deflectionLimit quotient ofInt div round lt
+unfolding fileOf heldMembers recordsOf recordsFrom recordAt recordMembers recordVerdict builtVerdict fieldsVerdict scheduleBytes membersBytes memberNumbers beamNumbers columnNumbers meshNumbers bytesOfAll bytesOf septetsOf parseLine parsedFigure lineOf wordOf split splitMore isDecimal every valueOf valueFrom outputOf reportOf textOf endedBy joinedBy decimal digits lentReportOf lentUtilizationOf lentVerdict lentMember lentBeam lentColumn lentFieldsHold namedHold barTotals numberAt septetsAt lastSeptet schedule members member markAt kindAt markRises markInRange memberBody fields field fieldsOf known kindOf isPresent holds areaOf memberVerdict fieldHolds beamVerdict columnVerdict meshVerdict beamConsistent flangeFits compressionFits depthFits loadFits beamBars beamRatio serviceMomentFits columnConsistent columnBars meshConsistent barCount memberAt beamAt columnAt meshAt beamOutcome sectionOutcome fromDepth fromBending fromShear fromSpacing fromLeastLinks fromStress fromWidth fromDeflection sectionOf concreteOf steelOf fyvOf parametersOf stressFactor webFactor depthLimit balancedDepth β₁ εcu _⊕_ _⊘_ area sumD sumE groupArea groupDiameters groupSquares leastSteel compressionDepth compressionYields yieldedCapacity coupleCapacity bendingCapacity webHolds shearResult concreteShear linkShear shearCapacity shearAbove linkSpacing leastLinks spacingLimit stressHolds steelStress stiffening meanStress crackSpacing widthOf σ q crackWidth widthLimit flexibility curvature shortTerm longTerm deflectionOf deflection spanDivisor deflectionHolds columnOutcome linksOutcome slendernessOutcome axialOutcome steelFits linksFit slendernessFits axialCapacity stability interval interpolated concreteArea squashLoad point meshOutcome lapOutcome anchorageLength lapLength requiredLap tensionLap basicLength multiple up down clamp beamUtilization columnUtilization meshUtilization overFigure overLimit ratio deflectionLimit quotient ofInt div round lt
 table =
     record {
       beam-1 = refl;
@@ -102,6 +104,28 @@ table =
       web-1500-exceeded = refl;
       web-point-500-reached = refl;
       web-point-500-exceeded = refl;
+      beams-by-grade = refl;
+      columns-by-grade = refl;
+      meshes-by-grade = refl;
+      depth-50-1-reached = refl;
+      depth-50-1-exceeded = refl;
+      depth-50-2-reached = refl;
+      depth-50-2-exceeded = refl;
+      depth-55-1-reached = refl;
+      depth-55-1-exceeded = refl;
+      depth-55-2-reached = refl;
+      depth-55-2-exceeded = refl;
+      depth-80-2-reached = refl;
+      depth-80-2-exceeded = refl;
+      depth-80-1-most = refl;
+      depth-50-by-table = refl;
+      yields-80-reached = refl;
+      yields-80-exceeded = refl;
+      couple-80-exceeded = refl;
+      web-c55-reached = refl;
+      web-c55-exceeded = refl;
+      web-c80-reached = refl;
+      web-c80-exceeded = refl;
       stocky = refl;
       slender = refl;
       stability-8 = refl;
@@ -136,6 +160,11 @@ table =
       service-before-mark = refl;
       service-of-second = refl;
       web-printed = refl;
+      grade-read = refl;
+      grades-of-beams = refl;
+      grades-of-point-loads = refl;
+      grades-of-columns = refl;
+      grades-of-meshes = refl;
       cross-bar-two = refl;
       ends-in-a-field = refl;
       byte-left = refl;
@@ -156,6 +185,9 @@ table =
       line-point-service = refl;
       line-web = refl;
       line-point-web = refl;
+      line-grade = refl;
+      line-grade-51 = refl;
+      line-grade-85 = refl;
       line-2 = refl;
       line-3 = refl;
       count-above = refl;
@@ -177,6 +209,9 @@ table =
       kind-nine = refl;
       written-service = refl;
       written-point-service = refl;
+      written-grade = refl;
+      written-grade-51 = refl;
+      written-grade-85 = refl;
       file-fits = refl;
       file-too-long = refl;
       mark-before-room = refl;

@@ -1,4 +1,4 @@
--- The three members of document 01's printed schedule: by their fields, as a caller builds them, as a schedule's bytes and as words; beam 1 under a point load, too; a narrow beam; members whose fields are numbered, to show which stands where; a mesh of family 2.
+-- The three members of document 01's printed schedule: by their fields, as a caller builds them, as a schedule's bytes and as words; beam 1 under a point load, too; all three of any concrete; a narrow beam; members whose fields are numbered, to show which stands where; a mesh of family 2.
 use Prim.Native.Nat.{ℕ, _-_}
 use mathlib.Core.List.{List, [], _∷_, _++_}
 use lib.ListN.{length, replicate}
@@ -15,10 +15,10 @@ bars n d = record { diameter = d; bars = n } ∷ []
 
 -- ---- By their fields.
 
--- a beam of C30 and HRB400 without a flange, over 6 m, mark 1: its load, b, h, a', its bars, its links (diameter, legs, spacing,
+-- a beam without a flange, over 6 m, mark 1: its concrete, steel and load, b, h, a', its bars, its links (diameter, legs, spacing,
 -- steel), M, Mq and V
-abbrev plainBeam : Load → ℕ → ℕ → ℕ → List Group → List Group → ℕ → ℕ → ℕ → ℕ → ℕ → ℕ → ℕ → Member
-plainBeam load width height a′ tension compression link legs spacing linkSteel design service shear =
+abbrev plainBeam : ℕ → ℕ → Load → ℕ → ℕ → ℕ → List Group → List Group → ℕ → ℕ → ℕ → ℕ → ℕ → ℕ → ℕ → Member
+plainBeam concrete steel load width height a′ tension compression link legs spacing linkSteel design service shear =
     beam 1 (record {
       b = width;
       h = height;
@@ -26,8 +26,8 @@ plainBeam load width height a′ tension compression link legs spacing linkSteel
       hf = 0;
       aₛ = 40;
       a′ = a′;
-      concrete = 30;
-      steel = 1;
+      concrete = concrete;
+      steel = steel;
       tension = tension;
       compression = compression;
       link = link;
@@ -46,7 +46,7 @@ plainBeam load width height a′ tension compression link legs spacing linkSteel
 
 -- beam 1 with its load, its compression steel and a', the spacing of its links and V
 abbrev beamUnder : Load → List Group → ℕ → ℕ → ℕ → Member
-beamUnder load compression a′ spacing shear = plainBeam load 250 500 a′ (bars 4 20) compression 8 2 spacing 1 150000 90000 shear
+beamUnder load compression a′ spacing shear = plainBeam 30 1 load 250 500 a′ (bars 4 20) compression 8 2 spacing 1 150000 90000 shear
 
 abbrev pub beamWith : List Group → ℕ → ℕ → ℕ → Member
 beamWith compression a′ spacing shear = beamUnder Uniform compression a′ spacing shear
@@ -60,15 +60,20 @@ pointLoaded a spacing shear = beamUnder (Point (millimetres a)) [] 0 spacing she
 
 -- a beam of 100 mm with heavy links: its load, its height h (h0 is 40 less) and V
 abbrev pub narrowBeam : Load → ℕ → ℕ → Member
-narrowBeam load height shear = plainBeam load 100 height 0 (bars 2 20) [] 12 8 50 2 60000 1 shear
+narrowBeam load height shear = plainBeam 30 1 load 100 height 0 (bars 2 20) [] 12 8 50 2 60000 1 shear
 
--- column 2 with its length l0 and N
-abbrev pub column₂ : ℕ → ℕ → Member
-column₂ span force =
+-- beam 1 of another concrete and steel, with its tension bars, its compression steel and a', M, Mq and V
+abbrev pub gradedBeam : ℕ → ℕ → List Group → List Group → ℕ → ℕ → ℕ → ℕ → Member
+gradedBeam concrete steel tension compression a′ design service shear =
+    plainBeam concrete steel Uniform 250 500 a′ tension compression 8 2 200 1 design service shear
+
+-- column 2 with its concrete, its length l0 and N
+abbrev pub gradedColumn : ℕ → ℕ → ℕ → Member
+gradedColumn concrete span force =
     column 2 (record {
       b = 400;
       h = 400;
-      concrete = 30;
+      concrete = concrete;
       steel = 1;
       groups = bars 8 20;
       link = 8;
@@ -77,12 +82,15 @@ column₂ span force =
       N = force;
     })
 
--- mesh 3 with its anchorage and its lap
-abbrev pub mesh₃ : ℕ → ℕ → Member
-mesh₃ anchorage lap =
+abbrev pub column₂ : ℕ → ℕ → Member
+column₂ span force = gradedColumn 30 span force
+
+-- mesh 3 with its concrete, its anchorage and its lap
+abbrev pub gradedMesh : ℕ → ℕ → ℕ → Member
+gradedMesh concrete anchorage lap =
     mesh 3 (record {
       family = 1;
-      concrete = 30;
+      concrete = concrete;
       d = 10;
       cross = 1;
       paired = 0;
@@ -94,15 +102,21 @@ mesh₃ anchorage lap =
       lap = lap;
     })
 
+abbrev pub mesh₃ : ℕ → ℕ → Member
+mesh₃ anchorage lap = gradedMesh 30 anchorage lap
+
 -- ---- As a caller builds them: mark, kind and fields, of which there are 24; the groups are lent beside them.
 
 abbrev pub built : ℕ → ℕ → List ℕ → Lent
 built mark kind v = record { mark = mark; kind = kind; fields = record { v = v ++ replicate (24 - length v) 0 } }
 
--- of kind 1 or 4, with the count of its tension groups, M, Mq, V and a
+-- of kind 1 or 4, with its concrete, the count of its tension groups, M, Mq, V and a
+abbrev pub builtGradedBeam : ℕ → ℕ → ℕ → ℕ → ℕ → ℕ → ℕ → Lent
+builtGradedBeam kind concrete count design service shear a =
+    built 1 kind (250 ∷ 500 ∷ 250 ∷ 0 ∷ 40 ∷ 0 ∷ concrete ∷ 1 ∷ count ∷ 0 ∷ 8 ∷ 2 ∷ 200 ∷ 1 ∷ 30 ∷ 6000 ∷ design ∷ service ∷ shear ∷ 1 ∷ 0 ∷ a ∷ [])
+
 abbrev pub builtLoadedBeam : ℕ → ℕ → ℕ → ℕ → ℕ → ℕ → Lent
-builtLoadedBeam kind count design service shear a =
-    built 1 kind (250 ∷ 500 ∷ 250 ∷ 0 ∷ 40 ∷ 0 ∷ 30 ∷ 1 ∷ count ∷ 0 ∷ 8 ∷ 2 ∷ 200 ∷ 1 ∷ 30 ∷ 6000 ∷ design ∷ service ∷ shear ∷ 1 ∷ 0 ∷ a ∷ [])
+builtLoadedBeam kind count design service shear a = builtGradedBeam kind 30 count design service shear a
 
 abbrev pub builtBeamWith : ℕ → ℕ → ℕ → ℕ → ℕ → Lent
 builtBeamWith kind count design service a = builtLoadedBeam kind count design service 120000 a
@@ -218,12 +232,19 @@ of411126 = 246 ∷ 139 ∷ 25 ∷ []
 abbrev pub fourBars : List ℕ
 fourBars = 1 ∷ 20 ∷ 4 ∷ []
 
--- with its mark, its kind, its tension groups, M and Mq, V, and what follows the fields of kind 1
-abbrev pub loadedBeamBytes : ℕ → ℕ → List ℕ → List ℕ → List ℕ → List ℕ → List ℕ
-loadedBeamBytes mark kind groups moments shear last =
-    mark ∷ kind ∷ 250 ∷ 1 ∷ 244 ∷ 3 ∷ 250 ∷ 1 ∷ 0 ∷ 40 ∷ 0 ∷ 30 ∷ 1 ∷ (groups
+-- up to its concrete, with its mark and its kind
+abbrev pub beamStart : ℕ → ℕ → ℕ → List ℕ → List ℕ
+beamStart mark kind concrete rest = mark ∷ kind ∷ 250 ∷ 1 ∷ 244 ∷ 3 ∷ 250 ∷ 1 ∷ 0 ∷ 40 ∷ 0 ∷ concrete ∷ rest
+
+-- with its mark, kind and concrete, its tension groups, M and Mq, V, and what follows the fields of kind 1
+abbrev pub gradedBeamBytes : ℕ → ℕ → ℕ → List ℕ → List ℕ → List ℕ → List ℕ → List ℕ
+gradedBeamBytes mark kind concrete groups moments shear last =
+    beamStart mark kind concrete (1 ∷ (groups
     ++ (0 ∷ 8 ∷ 2 ∷ 200 ∷ 1 ∷ 1 ∷ 30 ∷ 240 ∷ 46 ∷ (moments
-    ++ (shear ++ (1 ∷ 0 ∷ last)))))
+    ++ (shear ++ (1 ∷ 0 ∷ last))))))
+
+abbrev pub loadedBeamBytes : ℕ → ℕ → List ℕ → List ℕ → List ℕ → List ℕ → List ℕ
+loadedBeamBytes mark kind groups moments shear last = gradedBeamBytes mark kind 30 groups moments shear last
 
 abbrev pub beamBytesWith : ℕ → ℕ → List ℕ → List ℕ → List ℕ → List ℕ
 beamBytesWith mark kind groups moments last = loadedBeamBytes mark kind groups moments of120000 last
@@ -243,9 +264,12 @@ pointBytes a = 1 ∷ beamBytes 4 a
 abbrev pub columnBytes : ℕ → List ℕ
 columnBytes steel = 2 ∷ 2 ∷ 144 ∷ 3 ∷ 144 ∷ 3 ∷ 30 ∷ steel ∷ 1 ∷ 20 ∷ 8 ∷ 8 ∷ 250 ∷ 1 ∷ 160 ∷ 31 ∷ 160 ∷ 203 ∷ 152 ∷ 1 ∷ []
 
--- with its mark
+-- with its mark and its concrete
+abbrev pub gradedMeshBytes : ℕ → ℕ → List ℕ
+gradedMeshBytes mark concrete = mark ∷ 3 ∷ 1 ∷ concrete ∷ 10 ∷ 1 ∷ 0 ∷ 0 ∷ 3 ∷ 1 ∷ 0 ∷ 142 ∷ 2 ∷ 222 ∷ 2 ∷ []
+
 abbrev pub meshBytes : ℕ → List ℕ
-meshBytes mark = mark ∷ 3 ∷ 1 ∷ 30 ∷ 10 ∷ 1 ∷ 0 ∷ 0 ∷ 3 ∷ 1 ∷ 0 ∷ 142 ∷ 2 ∷ 222 ∷ 2 ∷ []
+meshBytes mark = gradedMeshBytes mark 30
 
 -- the printed schedule with the steel of its column, of code 1
 abbrev pub printedBytes : ℕ → List ℕ
@@ -271,9 +295,12 @@ beamWords kind a past = beamWordsWith 1 kind 150000 90000 a past
 abbrev pub columnWords : ℕ → List ℕ
 columnWords past = 2 ∷ 2 ∷ 400 ∷ 400 ∷ 30 ∷ 1 ∷ 1 ∷ 20 ∷ 8 ∷ (threePast past ++ (8 ∷ 250 ∷ 4000 ∷ 2500000 ∷ replicate 23 past))
 
--- with its mark
+-- with its mark and its concrete
+abbrev pub gradedMeshWords : ℕ → ℕ → ℕ → List ℕ
+gradedMeshWords mark concrete past = mark ∷ 3 ∷ 1 ∷ concrete ∷ 10 ∷ 1 ∷ 0 ∷ 0 ∷ 3 ∷ 1 ∷ 0 ∷ 270 ∷ 350 ∷ replicate 29 past
+
 abbrev pub meshWords : ℕ → ℕ → List ℕ
-meshWords mark past = mark ∷ 3 ∷ 1 ∷ 30 ∷ 10 ∷ 1 ∷ 0 ∷ 0 ∷ 3 ∷ 1 ∷ 0 ∷ 270 ∷ 350 ∷ replicate 29 past
+meshWords mark past = gradedMeshWords mark 30 past
 
 -- the printed schedule
 abbrev pub printedWords : ℕ → List ℕ

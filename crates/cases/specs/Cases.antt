@@ -4,7 +4,7 @@ use Prim.Native.Char.{code}
 use Prim.Native.String.{String, [] as []ₛ, _∷_ as _∷ₛ_}
 use mathlib.Core.Path.{_≡_}
 use mathlib.Core.Bool.{true, false}
-use mathlib.Core.List.{List, [], _∷_, _++_}
+use mathlib.Core.List.{List, [], _∷_, _++_, map}
 use lib.ListN.{replicate}
 use lib.IntN.{negsuc}
 use lib.Ieee.{Float, fin}
@@ -37,8 +37,12 @@ use Rattle.cases.specs.CaseMembers.{
   beam₁,
   pointLoaded,
   narrowBeam,
+  gradedBeam,
+  gradedColumn,
   column₂,
+  gradedMesh,
   mesh₃,
+  builtGradedBeam,
   builtLoadedBeam,
   builtBeamWith,
   builtBeamOf,
@@ -56,15 +60,20 @@ use Rattle.cases.specs.CaseMembers.{
   of90001,
   of150000,
   of411126,
+  of120000,
   fourBars,
+  beamStart,
+  gradedBeamBytes,
   loadedBeamBytes,
   beamBytesWith,
   momentBytes,
   pointBytes,
+  gradedMeshBytes,
   meshBytes,
   printedBytes,
   beamWordsWith,
   beamWords,
+  gradedMeshWords,
   meshWords,
   printedWords,
 }
@@ -77,6 +86,14 @@ bytes (c ∷ₛ s) = code c ∷ bytes s
 -- the report of document 01's schedule
 abbrev pub printed : List ℕ
 printed = bytes "members 3\n1 OK 179495 177587 172 1885\n2 OK 2816134 - - -\n3 OK 263 342 - -\n"
+
+-- the grades of concrete
+abbrev pub grades : List ℕ
+grades = 20 ∷ 25 ∷ 30 ∷ 35 ∷ 40 ∷ 45 ∷ 50 ∷ 55 ∷ 60 ∷ 65 ∷ 70 ∷ 75 ∷ 80 ∷ []
+
+-- three files that end after the grade: the first and the last are refused for it, the other for its end
+abbrev pub refusedButEnds : List String
+refusedButEnds = "refused 7 member 1\n" ∷ "refused 2 member 1\n" ∷ "refused 7 member 1\n" ∷ []
 
 -- ---- Utilizations as doubles.
 
@@ -190,6 +207,82 @@ pub record Table : Type 0 where
   pub web-1500-exceeded : memberText (narrowBeam Uniform 1540 429001) ≡ bytes "1 6.3.1v 321441 - - -\n"
   pub web-point-500-reached : memberText (narrowBeam (Point (millimetres 6000)) 540 160875) ≡ bytes "1 OK 95217 3288561 1 1\n"
   pub web-point-500-exceeded : memberText (narrowBeam (Point (millimetres 6000)) 540 160876) ≡ bytes "1 6.3.1v 95217 - - -\n"
+  -- document 02, wish 7: beam 1, column 2 and mesh 3 of each grade, C20 to C80
+  pub beams-by-grade :
+      map (λ (g : ℕ). memberText (gradedBeam g 1 (bars 4 20) [] 0 150000 90000 120000)) grades ≡ map bytes (
+      "1 OK 165478 151022 191 2106\n"
+      ∷ "1 OK 173721 164707 181 1985\n"
+      ∷ "1 OK 179495 177587 172 1885\n"
+      ∷ "1 OK 183610 188857 164 1808\n"
+      ∷ "1 OK 186690 200127 156 1742\n"
+      ∷ "1 OK 188722 207372 151 1695\n"
+      ∷ "1 OK 190402 214617 145 1646\n"
+      ∷ "1 OK 191780 220252 141 1606\n"
+      ∷ "1 OK 192934 226692 136 1571\n"
+      ∷ "1 OK 193914 230717 133 1543\n"
+      ∷ "1 OK 194714 234742 130 1521\n"
+      ∷ "1 OK 195375 237962 128 1499\n"
+      ∷ "1 OK 195993 241182 125 1478\n"
+      ∷ []
+      )
+  pub columns-by-grade :
+      map (λ (g : ℕ). memberText (gradedColumn g 4000 2000000)) grades ≡ map bytes (
+      "2 OK 2152870 - - -\n"
+      ∷ "2 OK 2477446 - - -\n"
+      ∷ "2 OK 2816134 - - -\n"
+      ∷ "2 OK 3154822 - - -\n"
+      ∷ "2 OK 3493510 - - -\n"
+      ∷ "2 OK 3775750 - - -\n"
+      ∷ "2 OK 4057990 - - -\n"
+      ∷ "2 OK 4368454 - - -\n"
+      ∷ "2 OK 4678918 - - -\n"
+      ∷ "2 OK 4989382 - - -\n"
+      ∷ "2 OK 5285734 - - -\n"
+      ∷ "2 OK 5567974 - - -\n"
+      ∷ "2 OK 5864326 - - -\n"
+      ∷ []
+      )
+  pub meshes-by-grade :
+      map (λ (g : ℕ). memberText (gradedMesh g 336 437)) grades ≡ map bytes (
+      "3 OK 336 437 - -\n"
+      ∷ "3 OK 294 383 - -\n"
+      ∷ "3 OK 263 342 - -\n"
+      ∷ "3 OK 231 301 - -\n"
+      ∷ "3 OK 221 287 - -\n"
+      ∷ "3 OK 221 287 - -\n"
+      ∷ "3 OK 221 287 - -\n"
+      ∷ "3 OK 221 287 - -\n"
+      ∷ "3 OK 221 287 - -\n"
+      ∷ "3 OK 221 287 - -\n"
+      ∷ "3 OK 221 287 - -\n"
+      ∷ "3 OK 221 287 - -\n"
+      ∷ "3 OK 221 287 - -\n"
+      ∷ []
+      )
+  -- 4.2.2-3: the most bars of 20 mm that pass and one bar more, HRB400 and HRB500 at C50 (e) and C55, HRB500 at C80 (GB 6.2.7)
+  pub depth-50-1-reached : memberText (gradedBeam 50 1 (bars 12 20) [] 0 1 1 120000) ≡ bytes "1 OK 464864 214617 1 1\n"
+  pub depth-50-1-exceeded : memberText (gradedBeam 50 1 (bars 13 20) [] 0 1 1 120000) ≡ bytes "1 4.2.2-3 - - - -\n"
+  pub depth-50-2-reached : memberText (gradedBeam 50 2 (bars 9 20) [] 0 1 1 120000) ≡ bytes "1 OK 434835 214617 1 1\n"
+  pub depth-50-2-exceeded : memberText (gradedBeam 50 2 (bars 10 20) [] 0 1 1 120000) ≡ bytes "1 4.2.2-3 - - - -\n"
+  pub depth-55-1-reached : memberText (gradedBeam 55 1 (bars 12 20) [] 0 1 1 120000) ≡ bytes "1 OK 477264 220252 1 1\n"
+  pub depth-55-1-exceeded : memberText (gradedBeam 55 1 (bars 13 20) [] 0 1 1 120000) ≡ bytes "1 4.2.2-3 - - - -\n"
+  pub depth-55-2-reached : memberText (gradedBeam 55 2 (bars 9 20) [] 0 1 1 120000) ≡ bytes "1 OK 445019 220252 1 1\n"
+  pub depth-55-2-exceeded : memberText (gradedBeam 55 2 (bars 10 20) [] 0 1 1 120000) ≡ bytes "1 4.2.2-3 - - - -\n"
+  pub depth-80-2-reached : memberText (gradedBeam 80 2 (bars 12 20) [] 0 1 1 120000) ≡ bytes "1 OK 595030 241182 1 1\n"
+  pub depth-80-2-exceeded : memberText (gradedBeam 80 2 (bars 13 20) [] 0 1 1 120000) ≡ bytes "1 4.2.2-3 - - - -\n"
+  -- the largest steel that question 10 takes at C80: HRB400 reaches its 4 percent before the depth limit
+  pub depth-80-1-most : memberText (gradedBeam 80 1 (bars 14 20) [] 0 1 1 120000) ≡ bytes "1 OK 579819 241182 1 1\n"
+  -- between GB 6.2.7's fraction and e at C50, where e decides
+  pub depth-50-by-table : memberText (gradedBeam 50 1 (bars 4 32 ++ bars 1 28) [] 0 1 1 120000) ≡ bytes "1 OK 469858 214617 1 1\n"
+  -- at C80 t is 678672 N and 2·a'·k 674920 N, 718000 N without α1: 4.2.2 applies; with a bar less 4.2.3
+  pub yields-80-reached : memberText (gradedBeam 80 1 (bars 8 20) (bars 2 20) 40 379905 90000 120000) ≡ bytes "1 OK 379905 241182 45 910\n"
+  pub yields-80-exceeded : memberText (gradedBeam 80 1 (bars 8 20) (bars 2 20) 40 379906 90000 120000) ≡ bytes "1 4.2.2 379905 - - -\n"
+  pub couple-80-exceeded : memberText (gradedBeam 80 1 (bars 7 20) (bars 2 20) 40 332550 90000 120000) ≡ bytes "1 4.2.3 332549 - - -\n"
+  -- 6.3.1v with βc of C55 and of C80: the largest V that the web bears, and 1 N more
+  pub web-c55-reached : memberText (gradedBeam 55 1 (bars 4 20) [] 0 150000 90000 703129) ≡ bytes "1 4.3.3 191780 220252 - -\n"
+  pub web-c55-exceeded : memberText (gradedBeam 55 1 (bars 4 20) [] 0 150000 90000 703130) ≡ bytes "1 6.3.1v 191780 - - -\n"
+  pub web-c80-reached : memberText (gradedBeam 80 1 (bars 4 20) [] 0 150000 90000 825700) ≡ bytes "1 4.3.3 195993 241182 - -\n"
+  pub web-c80-exceeded : memberText (gradedBeam 80 1 (bars 4 20) [] 0 150000 90000 825701) ≡ bytes "1 6.3.1v 195993 - - -\n"
   -- l0/b of 8 and 50, and φ in hundredths there, where the steps write 200·b for 1
   pub stocky : memberText (column₂ (8 * 400) 2500000) ≡ bytes "2 OK 2873606 - - -\n"
   pub slender : memberText (column₂ (50 * 400) 2500000) ≡ bytes "2 4.2.4 545985 - - -\n"
@@ -232,6 +325,12 @@ pub record Table : Type 0 where
   pub service-of-second : outputOf (2 ∷ (meshBytes 1 ++ beamBytesWith 2 1 fourBars (of90000 ++ of90001) [])) ≡ bytes "refused 14 member 2\n"
   -- V one above the limit of the web: the moment, and three places without a figure
   pub web-printed : outputOf (1 ∷ loadedBeamBytes 1 1 fourBars (of150000 ++ of90000) of411126 []) ≡ bytes "members 1\n1 6.3.1v 179495 - - -\n"
+  -- concrete of 80 is read, of 51 and of 85 refused, in each kind
+  pub grade-read : outputOf (1 ∷ gradedBeamBytes 1 1 80 fourBars (of150000 ++ of90000) of120000 []) ≡ bytes "members 1\n1 OK 195993 241182 125 1478\n"
+  pub grades-of-beams : map (λ (g : ℕ). outputOf (1 ∷ beamStart 1 1 g [])) (51 ∷ 80 ∷ 85 ∷ []) ≡ map bytes refusedButEnds
+  pub grades-of-point-loads : map (λ (g : ℕ). outputOf (1 ∷ beamStart 1 4 g [])) (51 ∷ 80 ∷ 85 ∷ []) ≡ map bytes refusedButEnds
+  pub grades-of-columns : map (λ (g : ℕ). outputOf (1 ∷ 1 ∷ 2 ∷ 172 ∷ 2 ∷ 172 ∷ 2 ∷ g ∷ [])) (51 ∷ 80 ∷ 85 ∷ []) ≡ map bytes refusedButEnds
+  pub grades-of-meshes : map (λ (g : ℕ). outputOf (1 ∷ 1 ∷ 3 ∷ 1 ∷ g ∷ [])) (51 ∷ 80 ∷ 85 ∷ []) ≡ map bytes refusedButEnds
   pub cross-bar-two : outputOf (1 ∷ 1 ∷ 3 ∷ 1 ∷ 30 ∷ 10 ∷ 2 ∷ []) ≡ bytes "refused 7 member 1\n"
   pub ends-in-a-field : outputOf (1 ∷ 1 ∷ 2 ∷ 172 ∷ 2 ∷ 172 ∷ 2 ∷ 30 ∷ []) ≡ bytes "refused 2 member 1\n"
   pub byte-left : outputOf (0 ∷ 0 ∷ []) ≡ bytes "refused 11 member 0\n"
@@ -274,6 +373,10 @@ pub record Table : Type 0 where
   -- V one above the limit of the web
   pub line-web : lentReportOf (builtLoadedBeam 1 1 150000 90000 411126 0) (bars 4 20) [] ≡ got (bytes "1 6.3.1v 179495 - - -\n")
   pub line-point-web : lentReportOf (builtLoadedBeam 4 1 150000 90000 411126 0) (bars 4 20) [] ≡ got (bytes "1 6.3.1v 179495 - - -\n")
+  -- of C80, and of grades that there are not
+  pub line-grade : lentReportOf (builtGradedBeam 1 80 1 150000 90000 120000 0) (bars 4 20) [] ≡ got (bytes "1 OK 195993 241182 125 1478\n")
+  pub line-grade-51 : lentReportOf (builtGradedBeam 1 51 1 150000 90000 120000 0) (bars 4 20) [] ≡ no (refusal Field 1)
+  pub line-grade-85 : lentReportOf (builtGradedBeam 4 85 1 150000 90000 120000 0) (bars 4 20) [] ≡ no (refusal Field 1)
   pub line-2 : lentReportOf builtColumn (bars 8 20) [] ≡ got (bytes "2 OK 2816134 - - -\n")
   pub line-3 : lentReportOf (builtMesh 270 350) [] [] ≡ got (bytes "3 OK 263 342 - -\n")
   pub count-above : lentReportOf (builtBeam 2) (bars 4 20) [] ≡ no (refusal Field 1)
@@ -306,6 +409,10 @@ pub record Table : Type 0 where
   -- Mq one above M, in the first and in the second member
   pub written-service : fileOf (beamWordsWith 1 1 90000 90001 7 7) ≡ no (refusal ServiceMoment 1)
   pub written-point-service : fileOf (meshWords 1 0 ++ beamWordsWith 2 4 90000 90001 0 7) ≡ no (refusal ServiceMoment 2)
+  -- a mesh of C80, and meshes of grades that there are not
+  pub written-grade : fileOf (gradedMeshWords 1 80 7) ≡ got (1 ∷ gradedMeshBytes 1 80)
+  pub written-grade-51 : fileOf (gradedMeshWords 1 51 7) ≡ no (refusal Field 1)
+  pub written-grade-85 : fileOf (meshWords 1 0 ++ gradedMeshWords 2 85 7) ≡ no (refusal Field 2)
   -- room for document 01's file of 72 bytes, and for one byte less; members' questions before it
   pub file-fits : answered fileTooLong (fileOf (printedWords 0)) 72 ≡ record { question = 0; member = 0; length = 72 }
   pub file-too-long : answered fileTooLong (fileOf (printedWords 0)) 71 ≡ record { question = 13; member = 0; length = 0 }

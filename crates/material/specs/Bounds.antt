@@ -26,4 +26,5 @@ pub record UsableSteel (s : Steel) : Type 0 where
   pub fy : WholeUpTo 600 (s .fy)
   pub fyc : WholeUpTo 600 (s .fyc)
   pub axial : WholeUpTo 600 (s .axial)
-  pub depthLimit : s .depthLimit ≤ 100
+  pub depth-least : 1 ≤ s .depthLimit
+  pub depth-most : s .depthLimit ≤ 99

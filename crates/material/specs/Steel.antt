@@ -10,7 +10,7 @@ use Rattle.table.specs.Table.{cell}
 abbrev pub Es : ℕ
 Es = 200000
 
--- code, fyk, fy, fy', fy' under axial load (N/mm²), depth limit e (hundredths); 1 is HRB400, 2 is HRB500
+-- code, fyk, fy, fy', fy' under axial load (N/mm²), depth limit e up to C50 (hundredths); 1 is HRB400, 2 is HRB500
 abbrev pub steels : List (List ℕ)
 steels = (1 ∷ 400 ∷ 360 ∷ 360 ∷ 360 ∷ 52 ∷ []) ∷ (2 ∷ 500 ∷ 435 ∷ 435 ∷ 400 ∷ 48 ∷ []) ∷ []
 

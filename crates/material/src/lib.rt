@@ -16,7 +16,7 @@ pub struct Concrete {
     pub ec: Stress,
 }
 
-// What the checks use of the bars' steel: fyk, fy, fy' (fyc), fy' under axial load, and the depth limit in hundredths.
+// What the checks use of the bars' steel: fyk, fy, fy' (fyc), fy' under axial load, and the depth limit e up to C50, in hundredths.
 pub struct Steel {
     pub fyk: Stress,
     pub fy: Stress,
@@ -30,7 +30,7 @@ pub fn is_grade(grade: u32) -> bool
     ensures { λ r. ⌜ r ≡ listed grade concretes ⌝ }
 {
     match grade {
-        20 | 25 | 30 | 35 | 40 | 45 | 50 => true,
+        20 | 25 | 30 | 35 | 40 | 45 | 50 | 55 | 60 | 65 | 70 | 75 | 80 => true,
         _ => false,
     }
 }
@@ -51,7 +51,11 @@ fn concrete_row(fc: u32, ft: u32, ftk: u32, ec: u32) -> Concrete
 fn grade_row(grade: u32) -> u32
     ensures { λ r. ⌜ r ≡ place grade concretes ⌝ }
 {
-    if is_grade(grade) { (grade - 20) / 5 } else { 7 }
+    if is_grade(grade) {
+        (grade - 20) / 5
+    } else {
+        13
+    }
 }
 
 // The columns of the table, by row. Arms of plain numbers compile to lookup tables; a constant array would be made anew at each use.
@@ -67,6 +71,12 @@ fn fc_at(i: u32) -> u32
         4 => 191,
         5 => 211,
         6 => 231,
+        7 => 253,
+        8 => 275,
+        9 => 297,
+        10 => 318,
+        11 => 338,
+        12 => 359,
         _ => 0,
     }
 }
@@ -82,6 +92,12 @@ fn ft_at(i: u32) -> u32
         4 => 171,
         5 => 180,
         6 => 189,
+        7 => 196,
+        8 => 204,
+        9 => 209,
+        10 => 214,
+        11 => 218,
+        12 => 222,
         _ => 0,
     }
 }
@@ -97,6 +113,12 @@ fn ftk_at(i: u32) -> u32
         4 => 239,
         5 => 251,
         6 => 264,
+        7 => 274,
+        8 => 285,
+        9 => 293,
+        10 => 299,
+        11 => 305,
+        12 => 311,
         _ => 0,
     }
 }
@@ -112,6 +134,12 @@ fn ec_at(i: u32) -> u32
         4 => 32500,
         5 => 33500,
         6 => 34500,
+        7 => 35500,
+        8 => 36000,
+        9 => 36500,
+        10 => 37000,
+        11 => 37500,
+        12 => 38000,
         _ => 0,
     }
 }

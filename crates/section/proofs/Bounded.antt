@@ -7,6 +7,7 @@ use Rattle.quantity.proofs.Product.{product-most}
 use Rattle.code_tables.specs.Bars.{areaOf}
 use Rattle.code_tables.proofs.Bars.{link-area-most}
 use Rattle.material.proofs.Materials.{usable-concrete, usable-steel, usable-links}
+use Rattle.parameters.proofs.Usable.{usable-parameters}
 use Rattle.member.specs.Member.{Beam}
 use Rattle.bars.specs.Sums.{area}
 use Rattle.member.specs.Accepted.{AcceptedBeam}
@@ -57,4 +58,5 @@ bounded x a =
       steel = usable-steel (x .steel) (a .steel);
       fyv = usable-links (x .linkSteel) (a .linkSteel);
       load-most = load-within-more (x .load) (x .l₀) 12000 (a .load-within) (a .l₀-most);
+      parameters = usable-parameters (x .concrete) (x .steel) (a .concrete) (a .steel);
     }

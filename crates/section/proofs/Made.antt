@@ -7,8 +7,10 @@ use Rattle.quantity.specs.declared.Stress.{Stress}
 use Rattle.quantity.specs.Unit.{millimetres}
 use Rattle.material.specs.declared.Concrete.{Concrete}
 use Rattle.material.specs.declared.Steel.{Steel}
+use Rattle.parameters.specs.declared.Parameters.{Parameters}
 use Rattle.material.specs.Concrete.{concreteOf}
 use Rattle.material.specs.Steel.{steelOf, fyvOf}
+use Rattle.parameters.specs.Parameters.{parametersOf}
 use Rattle.member.specs.declared.Beam.{Beam}
 use Rattle.bars.specs.declared.Totals.{Totals}
 use Rattle.member.specs.Member.{beamOf, h₀}
@@ -16,7 +18,7 @@ use Rattle.bars.specs.Sums.{TotalsOf, area}
 use Rattle.section.specs.declared.Section.{Section}
 use Rattle.section.specs.Section.{sectionOf}
 
-module _ (x : Beam) (h0 : Length) (flange compression links : ℕ) (t : Totals) (m : Concrete) (s : Steel) (f : Stress) where
+module _ (x : Beam) (h0 : Length) (flange compression links : ℕ) (t : Totals) (m : Concrete) (s : Steel) (f : Stress) (r : Parameters) where
   abbrev put : Section
   put =
       record {
@@ -43,12 +45,14 @@ module _ (x : Beam) (h0 : Length) (flange compression links : ℕ) (t : Totals) 
         steel = s;
         fyv = f;
         load = x .load;
+        parameters = r;
       }
 
   pub made : h0 .0 ≡ h₀ (beamOf x) → flange ≡ sectionOf (beamOf x) .flange → TotalsOf (beamOf x .tension) t →
       compression ≡ area (beamOf x .compression) → links ≡ sectionOf (beamOf x) .links →
-      m ≡ concreteOf (x .concrete) → s ≡ steelOf (x .steel) → f ≡ fyvOf (x .linkSteel) → put ≡ sectionOf (beamOf x)
+      m ≡ concreteOf (x .concrete) → s ≡ steelOf (x .steel) → f ≡ fyvOf (x .linkSteel) →
+      r ≡ parametersOf (x .concrete) (steelOf (x .steel)) → put ≡ sectionOf (beamOf x)
   unfolding sectionOf
-  made d e totals g k p q r =
+  made d e totals g k p q u v =
       let d′ : h0 ≡ millimetres (h₀ (beamOf x)) = ap millimetres d in
-      rw (d′, e, totals .S, totals .E, totals .D, g, k, p, q, r) refl
+      rw (d′, e, totals .S, totals .E, totals .D, g, k, p, q, u, v) refl

@@ -1,7 +1,8 @@
--- What the checks use of the section of an accepted beam, for any materials within their bounds.
+-- What the checks use of the section of an accepted beam, for any materials and parameters within their bounds.
 use Prim.Native.Nat.{_*_, _≤_}
 use mathlib.Core.Path.{_≡_}
 use Rattle.material.specs.Bounds.{UsableConcrete, UsableSteel, WholeUpTo}
+use Rattle.parameters.specs.Bounds.{UsableParameters}
 use Rattle.member.specs.Accepted.{LoadWithin}
 use Rattle.section.specs.declared.Section.{Section}
 use Rattle.section.specs.Section.{b, h, h₀, a′, s, c, l₀, flange, G, S, S′, L, E, D, M, Mq, Vd}
@@ -37,3 +38,4 @@ pub record Bounded (x : Section) : Type 0 where
   pub steel : UsableSteel (x .steel)
   pub fyv : WholeUpTo 600 (x .fyv)
   pub load-most : LoadWithin 12000 (x .load)
+  pub parameters : UsableParameters (x .parameters)

@@ -1,13 +1,16 @@
--- The symbols of document 01's steps for beams.
+-- The symbols of document 01's steps for beams, with α1, βc and ξb of document 02, wish 7.
 use Prim.Native.Nat.{ℕ, _+_, _-_, _*_}
 use lib.Dec.{ltb}
+use Rattle.quantity.specs.Fraction.{Frac, _//_}
 use Rattle.quantity.specs.declared.Stress.{Stress}
 use Rattle.quantity.specs.Unit.{newtons, millimetres, inUnits, inTenths, inHundredths}
 use Rattle.material.specs.declared.Concrete.{Concrete}
 use Rattle.material.specs.declared.Steel.{Steel}
+use Rattle.parameters.specs.declared.Parameters.{Parameters}
 use Rattle.code_tables.specs.Bars.{areaOf}
 use Rattle.material.specs.Concrete.{concreteOf}
 use Rattle.material.specs.Steel.{steelOf, fyvOf}
+use Rattle.parameters.specs.Parameters.{parametersOf}
 use Rattle.member.specs.Member.{Beam}
 use Rattle.bars.specs.Sums.{area, sumD, sumE}
 use Rattle.section.specs.declared.Section.{Section}
@@ -71,7 +74,7 @@ Mq x = x .Mq
 abbrev pub Vd : Section → ℕ
 Vd x = x .v .0
 
--- strengths as the steps take them: fc in tenths, ft and ftk in hundredths, the others in whole N/mm²; e in hundredths
+-- strengths as the steps take them: fc in tenths, ft and ftk in hundredths, the others in whole N/mm²
 abbrev pub fc : Section → ℕ
 fc x = inTenths (x .concrete .fc)
 
@@ -97,12 +100,20 @@ fyc x = inUnits (x .steel .fyc)
 abbrev pub fyv : Section → ℕ
 fyv x = inUnits (x .fyv)
 
-abbrev pub e : Section → ℕ
-e x = x .steel .depthLimit
+-- stress factor α1 in hundredths, web factor βc in thirtieths
+abbrev pub α₁ : Section → ℕ
+α₁ x = x .parameters .stressFactor
 
--- The section of a beam, for given materials; L = legs times area.
-abbrev pub sectionWith : Beam → Concrete → Steel → Stress → Section
-sectionWith x concrete steel fyv =
+abbrev pub βc : Section → ℕ
+βc x = x .parameters .webFactor
+
+-- depth limit ξb, the compression zone's largest depth over h0
+abbrev pub ξb : Section → Frac
+ξb x = x .parameters .depthLimit .num // x .parameters .depthLimit .den
+
+-- The section of a beam, for given materials and parameters; L = legs times area.
+abbrev pub sectionWith : Beam → Concrete → Steel → Stress → Parameters → Section
+sectionWith x concrete steel fyv parameters =
     record {
       b = millimetres (x .b);
       h = millimetres (x .h);
@@ -127,8 +138,11 @@ sectionWith x concrete steel fyv =
       steel = steel;
       fyv = fyv;
       load = x .load;
+      parameters = parameters;
     }
 
--- with the materials that its fields name
+-- with the materials that its fields name, and their parameters
 unfoldable pub sectionOf : Beam → Section
-sectionOf x = sectionWith x (concreteOf (x .concrete)) (steelOf (x .steel)) (fyvOf (x .linkSteel))
+sectionOf x =
+    let steel = steelOf (x .steel) in
+    sectionWith x (concreteOf (x .concrete)) steel (fyvOf (x .linkSteel)) (parametersOf (x .concrete) steel)

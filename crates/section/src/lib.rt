@@ -14,6 +14,8 @@ use material::steel_of;
 use member::Beam;
 use member::Load;
 use member::effective_depth;
+use parameters::Parameters;
+use parameters::parameters_of;
 use quantity::Force;
 use quantity::Length;
 use quantity::Stress;
@@ -52,6 +54,8 @@ pub struct Section {
     pub fyv: Stress,
     // uniform, or a point load at the distance a
     pub load: Load,
+    // α1, βc and ξb
+    pub parameters: Parameters,
 }
 
 // (bf-b)·hf.
@@ -109,5 +113,6 @@ pub fn section_of(x: Beam) -> Section
         steel: steel_of(x.steel),
         fyv: fyv_of(x.linkSteel),
         load: load,
+        parameters: parameters_of(x.concrete, x.steel),
     }
 }

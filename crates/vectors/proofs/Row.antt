@@ -128,11 +128,11 @@ row-long [] = omega arith
 row-long (x ∷ xs) =
     omega (arith, row-long xs, length-append (partBytes (x .given)) (partBytes (x .text) ++ rowOf xs), length-append (partBytes (x .text)) (rowOf xs))
 
-pub row-read : (xs : List Vector) → length (rowOf xs) ≤ 250000 → tallyOf (rowOf xs) ≡ tally (length xs) (agreeing xs)
+pub row-read : (xs : List Vector) → length (rowOf xs) ≤ 320000 → tallyOf (rowOf xs) ≡ tally (length xs) (agreeing xs)
 unfolding tallyOf starts
 row-read xs h =
     let r = walked xs (length (rowOf xs)) [] (row-long xs) in
-    ap₂ tally (rw (le-ltb 250000 (length (rowOf xs)) h, r .0) (omega arith)) (r .1)
+    ap₂ tally (rw (le-ltb 320000 (length (rowOf xs)) h, r .0) (omega arith)) (r .1)
 
 -- ---- Cut input: the vector is counted, and is not equal.
 

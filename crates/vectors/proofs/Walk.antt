@@ -74,6 +74,6 @@ module _ (s : List ℕ) (v p : ℕ) where
 
 -- ---- The input, of n bytes.
 
-pub tally-is : (s : List ℕ) (t : Tally) (m n : ℕ) → t ≡ rowTally s → n ≡ length s → m ≡ oneIf (ltb 250000 n) → tally (t .vectors + m) (t .equal) ≡ tallyOf s
+pub tally-is : (s : List ℕ) (t : Tally) (m n : ℕ) → t ≡ rowTally s → n ≡ length s → m ≡ oneIf (ltb 320000 n) → tally (t .vectors + m) (t .equal) ≡ tallyOf s
 unfolding tallyOf
 tally-is s t m n a c d = rw (a, d, c)

@@ -1,5 +1,5 @@
 -- How many vectors an input has, and how many of them are equal to what is printed or written.
--- The input is a row of vectors, of at most 250,000 bytes. A vector is a byte that says what is given, then a schedule or a list of
+-- The input is a row of vectors, of at most 320,000 bytes. A vector is a byte that says what is given, then a schedule or a list of
 -- words, and the text expected, both after their lengths in two bytes, low byte first.
 use Prim.Native.Nat.{ℕ, zero, suc, _+_, _*_, _/_, _≤_}
 use mathlib.Core.Path.{_≡_}
@@ -93,6 +93,6 @@ tally vectors equal = record { vectors = vectors; equal = equal }
 abbrev pub rowTally : List ℕ → Tally
 rowTally s = tally (length (starts s)) (equalOf s (starts s))
 
--- of an input: what is past the 250,000th byte counts as one vector more, which is not equal
+-- of an input: what is past the 320,000th byte counts as one vector more, which is not equal
 unfoldable pub tallyOf : List ℕ → Tally
-tallyOf s = tally (rowTally s .vectors + oneIf (ltb 250000 (length s))) (rowTally s .equal)
+tallyOf s = tally (rowTally s .vectors + oneIf (ltb 320000 (length s))) (rowTally s .equal)

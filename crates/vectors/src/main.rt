@@ -143,7 +143,7 @@ fn agrees(form: usize, given: &[u8], text: &[u8]) -> bool
 
 // Is the vector at p whole, and its text the answer to what is given?
 fn equal_at(src: &[u8], p: usize) -> bool
-    requires { ⌜ p ≤ 250001 ⌝ }
+    requires { ⌜ p ≤ 320001 ⌝ }
     ensures { λ r. ⌜ r ≡ equalAt (now (src .entry)) p ⌝ }
 {
     let b = part_end(src, p + 1);
@@ -158,8 +158,8 @@ fn equal_at(src: &[u8], p: usize) -> bool
 
 // The vectors of a row, and those that are equal.
 fn row_tally(src: &[u8]) -> Tally
-    requires { ⌜ length (now src) ≤ 250001 ⌝ }
-    ensures { λ r. ⌜ (r ≡ rowTally (now (src .entry))) × (r .vectors ≤ 250001) ⌝ }
+    requires { ⌜ length (now src) ≤ 320001 ⌝ }
+    ensures { λ r. ⌜ (r ≡ rowTally (now (src .entry))) × (r .vectors ≤ 320001) ⌝ }
 {
     let mut vectors: u64 = 0;
     let mut equal: u64 = 0;
@@ -177,18 +177,18 @@ fn row_tally(src: &[u8]) -> Tally
 
 // The tally of the first n bytes of `all`, which has room for one byte more than an input may have, so that a longer one is seen.
 fn input_tally(all: &[u8], n: usize) -> Tally
-    requires { ⌜ (n ≤ length (now all)) × (length (now all) ≡ 250001) ⌝ }
+    requires { ⌜ (n ≤ length (now all)) × (length (now all) ≡ 320001) ⌝ }
     ensures { λ r. ⌜ r ≡ tallyOf (take n (now (all .entry))) ⌝ }
 {
     let t = row_tally(&all[..n]);
     Tally {
-        vectors: t.vectors + one_if(250000 < n),
+        vectors: t.vectors + one_if(320000 < n),
         equal: t.equal,
     }
 }
 
 fn main() {
-    let mut all = [0u8; 250001];
+    let mut all = [0u8; 320001];
     let n = io::read_full(0, &mut all);
     let t = input_tally(&all, n);
     io::write_all(1, b"vectors ");

@@ -9,7 +9,7 @@ use Rattle.quantity.proofs.Reflects.{Reflects, compared, settled-case, reflects
 use Rattle.quantity.proofs.Rounding.{expand}
 use Rattle.quantity.proofs.Unit.{exact-tenths}
 use Rattle.section.specs.declared.Section.{Section}
-use Rattle.section.specs.Section.{b, h₀, Vd, fc}
+use Rattle.section.specs.Section.{b, h₀, Vd, fc, βc}
 use Rattle.section.specs.Bounded.{Bounded}
 use Rattle.web_crushing.specs.Steps.{scaledWidth, webHolds}
 use Rattle.web_crushing.specs.Exact.{β, exactWebLimit, WebHolds}
@@ -50,20 +50,20 @@ module _ (x : Section) (p : 0 < b x) where
   β-same =
       settled-case IsFactor (compared _ _) (λ u. settled-case IsFactor (compared _ _) (λ v. between u v) slender) stocky
 
--- w/(40·b)·(g/10)·b·h is w·g·h/400
-limit-core : (w g b h : ℕ) → 0 < b → Same (w // (40 * b) ⊗ (g // 10) ⊗ whole b ⊗ whole h) ((w * g * h) // 400)
+-- w/(40·b)·(c/30)·(g/10)·b·h is w·c·g·h/12000
+limit-core : (w c g b h : ℕ) → 0 < b → Same (w // (40 * b) ⊗ (c // 30) ⊗ (g // 10) ⊗ whole b ⊗ whole h) ((w * c * g * h) // 12000)
 unfolding _⊗_
-limit-core w g b h p = record { pos = omega arith; pos′ = omega arith; same = simp expand (omega arith) }
+limit-core w c g b h p = record { pos = omega arith; pos′ = omega arith; same = simp expand (omega arith) }
 
 module _ {x : Section} (p : Bounded x) where
-  limit-same : Same (exactWebLimit x) ((scaledWidth x * fc x * h₀ x) // 400)
+  limit-same : Same (exactWebLimit x) ((scaledWidth x * βc x * fc x * h₀ x) // 12000)
   unfolding exactWebLimit IsFactor
   limit-same =
       let q : 0 < b x = omega (arith, p .b-least) in
       same-trans
-      (same-product (same-product (same-product (β-same x q) (exact-tenths (x .concrete .fc) (p .concrete .fc-exact)))
-      (same-refl (whole (b x)) (omega arith))) (same-refl (whole (h₀ x)) (omega arith)))
-      (limit-core (scaledWidth x) (fc x) (b x) (h₀ x) q)
+      (same-product (same-product (same-product (same-product (β-same x q) (same-refl (βc x // 30) (omega arith)))
+      (exact-tenths (x .concrete .fc) (p .concrete .fc-exact))) (same-refl (whole (b x)) (omega arith))) (same-refl (whole (h₀ x)) (omega arith)))
+      (limit-core (scaledWidth x) (βc x) (fc x) (b x) (h₀ x) q)
 
   pub web-reflects : Reflects (webHolds x) (WebHolds x)
   unfolding webHolds
@@ -71,4 +71,4 @@ module _ {x : Section} (p : Bounded x) where
       settles-as
       (λ h. ≼-same (whole (Vd x)) (same-sym limit-same) (omega arith))
       (λ n h. n (omega (arith, ≼-same (whole (Vd x)) limit-same h)))
-      (reflects-le (400 * Vd x) (scaledWidth x * fc x * h₀ x))
+      (reflects-le (12000 * Vd x) (scaledWidth x * βc x * fc x * h₀ x))

@@ -20,6 +20,6 @@ pub fn web_holds(x: Section) -> bool
     requires { ⌜ Bounded x ⌝ }
     ensures { λ r. ⌜ r ≡ webHolds x ⌝ }
 {
-    let force_per_mm = scaled_width(x) * x.concrete.fc.in_tenths();
-    400 * x.v.in_newtons() <= force_per_mm * x.h0.in_millimetres()
+    let force_per_mm = scaled_width(x) * x.parameters.webFactor * x.concrete.fc.in_tenths();
+    12000 * x.v.in_newtons() <= force_per_mm * x.h0.in_millimetres()
 }

@@ -4,8 +4,8 @@ use std::process::ExitCode;
 use std::time::Instant;
 
 use koxaltes_tests::branches::{
-    required, required_of_moments, required_of_point_loads, required_of_webs, required_of_writer,
-    Tally,
+    required, required_of_grades, required_of_moments, required_of_point_loads, required_of_webs,
+    required_of_writer, Tally,
 };
 use koxaltes_tests::comparison::{Answers, Checker, Comparison, Library};
 use koxaltes_tests::make::Random;
@@ -49,6 +49,7 @@ fn gaps<C: Checker>(comparison: &Comparison<C>) -> Vec<String> {
     missing.extend(comparison.tally.missing(required_of_point_loads()));
     missing.extend(comparison.tally.missing(required_of_moments()));
     missing.extend(comparison.tally.missing(required_of_webs()));
+    missing.extend(comparison.tally.missing(required_of_grades()));
     missing.extend(comparison.writer_tally.missing(required_of_writer()));
     let mut gaps: Vec<String> = missing.iter().map(|case| format!("case {case:?}")).collect();
     let lists = [
@@ -87,6 +88,7 @@ fn main() -> ExitCode {
         required_of_point_loads(),
         required_of_moments(),
         required_of_webs(),
+        required_of_grades(),
         required_of_writer(),
     ];
     let cases: usize = cases.iter().map(Vec::len).sum();

@@ -1,6 +1,6 @@
 //! Which cases of point-loaded beams were reached (document 02, wish 3).
 
-use super::{row, Case, Entry, Tally};
+use super::{grades, row, Case, Entry, Tally};
 use crate::make::hunts::turns_on_u;
 use crate::make::record::place::beam::{LOAD, SPAN};
 use crate::make::Record;
@@ -247,7 +247,7 @@ pub fn required_of_point_loads() -> Vec<Case> {
     let mut put = |about, variants: &[u64]| {
         cases.extend(variants.iter().map(|&variant| (about, variant)));
     };
-    put(FREE, &[20, 25, 30, 35, 40, 45, 50]);
+    put(FREE, &grades());
     put(TABLE_AT, &[1]);
     put(SPACING_AT, &[300, 500, 800, 801]);
     put(SPACING_ABOVE, &[300, 500, 800, 801]);

@@ -1,6 +1,6 @@
-//! Which cases of 6.3.1v were reached: V at most β·fc·b·h0 (document 02, wish 6).
+//! Which cases of 6.3.1v were reached: V at most β·βc·fc·b·h0 (document 02, wishes 6 and 7).
 
-use super::{Case, Entry, Tally};
+use super::{grades, Case, Entry, Tally};
 use crate::make::webs::MOST;
 use crate::model::beam::Beam;
 use crate::model::outcome::{Check, Outcome};
@@ -50,7 +50,7 @@ fn place(b: u64, h0: u64) -> u64 {
 }
 
 /// The range of h0/b: 4 up to 4, 5 between, 6 from 6.
-fn range(b: u64, h0: u64) -> u64 {
+pub(super) fn range(b: u64, h0: u64) -> u64 {
     if h0 <= 4 * b {
         4
     } else if h0 < 6 * b {
@@ -137,9 +137,8 @@ pub fn required_of_webs() -> Vec<Case> {
     for about in [BELOW, EQUAL, HIGHEST, ABOVE_EQUAL, ABOVE].concat() {
         put(about, &PLACES);
     }
-    let grades = [20, 25, 30, 35, 40, 45, 50];
     let by_grade: Vec<u64> =
-        [400, 500, 600].iter().flat_map(|range| grades.map(|grade| range + grade)).collect();
+        [400, 500, 600].iter().flat_map(|range| grades().map(|grade| range + grade)).collect();
     for about in [GRADE, GRADE_ABOVE].concat() {
         put(about, &by_grade);
     }

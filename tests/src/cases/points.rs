@@ -43,7 +43,7 @@ fn shear_by_distance() {
 }
 
 /// Concrete grades and the shear capacities of beam 1 at a = 1000.
-const BY_CONCRETE: [(u64, u64); 7] = [
+const BY_CONCRETE: [(u64, u64); 13] = [
     (20, 132_220),
     (25, 142_999),
     (30, 153_144),
@@ -51,6 +51,12 @@ const BY_CONCRETE: [(u64, u64); 7] = [
     (40, 170_898),
     (45, 176_605),
     (50, 182_312),
+    (55, 186_750),
+    (60, 191_823),
+    (65, 194_993),
+    (70, 198_164),
+    (75, 200_700),
+    (80, 203_236),
 ];
 
 #[test]

@@ -91,14 +91,16 @@ impl Mistake {
         let b = if self == Mistake::FlangeForWidth { beam.bf } else { beam.b };
         let h0 = if self == Mistake::HeightForDepth { beam.h } else { beam.h0() };
         let times = if self == Mistake::TenTimes { 10 } else { 1 };
-        let limit = self.factor(b, h0) * times * beam.concrete.fc * h0;
+        let (upper, lower) = beam.parameters().web;
+        let limit = upper * self.factor(b, h0) * times * beam.concrete.fc * h0;
+        let lower = 4000 * lower;
         match self {
-            Mistake::Below => 4000 * beam.shear < limit,
-            Mistake::RoundedUp => beam.shear <= limit.div_ceil(4000),
+            Mistake::Below => lower * beam.shear < limit,
+            Mistake::RoundedUp => beam.shear <= limit.div_ceil(lower),
             Mistake::LeftOut => true,
             Mistake::LeftOutAfterShallow if beam.is_shallow() => true,
             Mistake::LeftOutOf(kind) if kind == beam.kind() => true,
-            _ => 4000 * beam.shear <= limit,
+            _ => lower * beam.shear <= limit,
         }
     }
 

@@ -9,7 +9,7 @@ use crate::model::member::{Body, Member};
 use crate::model::outcome::{Check, Outcome};
 use crate::model::tables;
 
-pub const GRADES: [u32; 7] = [20, 25, 30, 35, 40, 45, 50];
+pub const GRADES: [u32; 13] = [20, 25, 30, 35, 40, 45, 50, 55, 60, 65, 70, 75, 80];
 pub const DIAMETERS: [u32; 15] = [6, 8, 10, 12, 14, 16, 18, 20, 22, 25, 28, 32, 36, 40, 50];
 
 /// One to four groups, at most 40 bars, of about the wanted area (tenths of mm²).

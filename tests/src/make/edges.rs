@@ -5,9 +5,10 @@ use super::record::place::{beam, column, mesh};
 use super::record::Record;
 use crate::model::built::Group;
 
-const HUGE: u32 = u32::MAX;
+/// The largest number of 32 bits.
+pub(super) const HUGE: u32 = u32::MAX;
 
-const GRADES: &[u32] = &[0, 15, 19, 20, 21, 24, 25, 45, 50, 51, 55, HUGE];
+const GRADES: &[u32] = &[0, 15, 19, 20, 21, 24, 25, 45, 50, 51, 55, 75, 79, 80, 81, 85, HUGE];
 const LINKS: &[u32] = &[0, 5, 6, 7, 8, 9, 10, 11, 12, 13, 14, HUGE];
 const LOADS: &[u32] = &[0, 1, 99_999_999, 100_000_000, 100_000_001, HUGE];
 const LENGTHS: &[u32] = &[0, 1, 100_000, 100_001, HUGE];

@@ -6,10 +6,11 @@ use super::beams::{around, as_beam, total, DIAMETERS, GRADES};
 use super::record::place::{beam, column};
 use super::record::Record;
 use crate::model::built::Group;
+use crate::model::parameters::Parameters;
 use crate::model::tables;
 
 /// Pairs x·y = product inside two ranges, at most `most` of them.
-fn factors(
+pub(super) fn factors(
     product: u64,
     x: RangeInclusive<u64>,
     y: RangeInclusive<u64>,
@@ -20,14 +21,14 @@ fn factors(
 }
 
 /// Groups of one diameter and 1 to 20 bars.
-fn single_groups() -> impl Iterator<Item = Vec<Group>> {
+pub(super) fn single_groups() -> impl Iterator<Item = Vec<Group>> {
     DIAMETERS
         .into_iter()
         .flat_map(|diameter| (1..=20).map(move |bars| vec![Group { diameter, bars }]))
 }
 
 /// A beam with the least moments, no V and close links.
-fn plain_beam(b: u64, h: u64, grade: u32, steel: u32, tension: &[Group]) -> Record {
+pub(super) fn plain_beam(b: u64, h: u64, grade: u32, steel: u32, tension: &[Group]) -> Record {
     let head = [b as u32, h as u32, b as u32, 0, 40, 0, grade, steel];
     let tail = [12, 4, 100, 2, 25, 2000, 1, 1, 0, 1, 0];
     let mut record = Record::beam(1, head, &[], &[], tail);
@@ -36,7 +37,7 @@ fn plain_beam(b: u64, h: u64, grade: u32, steel: u32, tension: &[Group]) -> Reco
     record
 }
 
-fn divided(upper: u64, lower: u64) -> Option<u64> {
+pub(super) fn divided(upper: u64, lower: u64) -> Option<u64> {
     upper.is_multiple_of(lower).then(|| upper / lower)
 }
 
@@ -64,13 +65,15 @@ fn minimum_steel(records: &mut Vec<Record>) {
     }
 }
 
-/// 4.2.2-3 at equality: 100·t = e·h0·k.
+/// 4.2.2-3 at equality: t is its part of h0·k.
 fn depth_limit(records: &mut Vec<Record>) {
     for tension in single_groups() {
         for (grade, code) in GRADES.into_iter().flat_map(|grade| [(grade, 1), (grade, 2)]) {
-            let fc = tables::concrete(u64::from(grade)).unwrap().fc;
+            let concrete = tables::concrete(u64::from(grade)).unwrap();
             let steel = tables::steel(code).unwrap();
-            let section = divided(100 * steel.fy * total(&tension), steel.depth * fc);
+            let Parameters { stress, depth: (upper, lower), .. } = Parameters::of(concrete, steel);
+            let force = 100 * steel.fy * total(&tension);
+            let section = divided(lower * force, upper * stress * concrete.fc);
             for (b, h0) in factors(section.unwrap_or(1), 100..=1000, 120..=1960, 1) {
                 let record = plain_beam(b, h0 + 40, grade, code as u32, &tension);
                 spread(record, beam::H, records);
@@ -85,11 +88,13 @@ fn shallow_depth(records: &mut Vec<Record>) {
         for (diameter, bars) in [(12, 2), (16, 3), (20, 2), (6, 2)] {
             let compression = vec![Group { diameter, bars }];
             for grade in GRADES {
-                let fc = tables::concrete(u64::from(grade)).unwrap().fc;
+                let concrete = tables::concrete(u64::from(grade)).unwrap();
+                let steel = tables::steel(1).unwrap();
+                let stress = Parameters::of(concrete, steel).stress;
                 let Some(net) = total(&tension).checked_sub(total(&compression)) else {
                     continue;
                 };
-                let product = divided(360 * net, 2 * fc).unwrap_or(1);
+                let product = divided(100 * steel.fy * net, 2 * stress * concrete.fc).unwrap_or(1);
                 for (distance, b) in factors(product, 20..=200, 100..=1000, 1) {
                     let mut record = plain_beam(b, 10 * distance + 200, grade, 1, &tension);
                     record.second = compression.clone();

@@ -22,8 +22,10 @@ fn out_of_range(kind: u32, random: &Random) -> (usize, u32) {
             (beam::ENVIRONMENT, 0),
             (beam::STRICT, 2),
             (beam::STRICT, u32::MAX),
+            (beam::CONCRETE, 85),
         ]),
         2 => random.pick(&[
+            (column::CONCRETE, 51),
             (column::STEEL, 3),
             (column::LINK, 7),
             (column::LENGTH, 499),
@@ -31,6 +33,7 @@ fn out_of_range(kind: u32, random: &Random) -> (usize, u32) {
         ]),
         _ => random.pick(&[
             (mesh::FAMILY, 0),
+            (mesh::CONCRETE, 84),
             (mesh::DIAMETER, 18),
             (mesh::SEISMIC, 5),
             (mesh::LAP_GIVEN, 100_001),

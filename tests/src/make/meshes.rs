@@ -55,7 +55,7 @@ pub fn hugging_meshes(record: &Record) -> Vec<Record> {
 pub fn every_mesh() -> Vec<Record> {
     let mut records = Vec::new();
     // Mixed radix: family, concrete, diameter, cross and apart, paired, seismic, lap, compression.
-    for number in 0..2 * 7 * 7 * 3 * 2 * 5 * 2 * 2 {
+    for number in 0..2 * GRADES.len() * 7 * 3 * 2 * 5 * 2 * 2 {
         let mut rest = number;
         let mut digit = |base: usize| {
             let digit = rest % base;
@@ -64,7 +64,7 @@ pub fn every_mesh() -> Vec<Record> {
         };
         let mut record = Record::mesh(1, [0; 11]);
         record.fields[FAMILY] = 1 + digit(2) as u32;
-        record.fields[CONCRETE] = GRADES[digit(7)];
+        record.fields[CONCRETE] = GRADES[digit(GRADES.len())];
         record.fields[DIAMETER] = [5, 6, 8, 10, 12, 14, 16][digit(7)];
         (record.fields[CROSS], record.fields[APART]) = [(0, 0), (0, 1), (1, 0)][digit(3)];
         record.fields[PAIRED] = digit(2) as u32;

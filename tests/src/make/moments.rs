@@ -68,8 +68,8 @@ fn beams_refused(record: &Record) -> Vec<(Vec<u8>, Refusal)> {
     ]
 }
 
-/// A mesh with this mark.
-fn mesh(mark: u32) -> Record {
+/// Document 01's mesh 3 with this mark.
+pub(super) fn mesh(mark: u32) -> Record {
     Record::mesh(mark, [1, 30, 10, 1, 0, 0, 3, 1, 0, 270, 350])
 }
 

@@ -1,6 +1,6 @@
 //! Vectors for another test program: some 300 members of the kinds 1 to 3 that reach every case, point-loaded beams that
-//! are chosen by theirs, and the beams of 6.3.1v, read and written; damaged schedules, refused lists, and two vectors that
-//! are wrong on purpose.
+//! are chosen by theirs, the beams of 6.3.1v, and members of the grades from C50 on, read and written; damaged schedules,
+//! refused lists and grades, and two vectors that are wrong on purpose.
 
 mod lists;
 
@@ -10,8 +10,8 @@ use super::base::{hugging_members, random_member};
 use super::edges::question_edges;
 use super::written::number;
 use super::{
-    damage, encode, equalities, hunts, moments, points, random_point_loaded, renumber, webs,
-    Random, Record,
+    damage, encode, equalities, grades, hunts, moments, points, random_point_loaded, renumber,
+    webs, Random, Record,
 };
 use crate::branches::{point_load_cases, required, Case, Tally};
 use crate::model::report::report;
@@ -24,7 +24,7 @@ const POINT_LOADED: usize = 45;
 const ALIKE: usize = 8;
 
 /// The bytes that the program `vectors` reads.
-const ROOM: usize = 250_000;
+const ROOM: usize = 320_000;
 
 /// The cases that a record reaches, if it is accepted.
 fn cases(record: &Record) -> Option<Vec<Case>> {
@@ -174,11 +174,19 @@ fn schedules(members: &[Record], random: &Random) -> Vec<Vec<u8>> {
     schedules
 }
 
-/// The beams around 6.3.1v's limit, with marks from 1. They stand apart and change none of the other members.
-fn web_beams() -> Vec<Record> {
-    let mut records: Vec<Record> = webs::examples().into_iter().map(|(record, _)| record).collect();
-    number(&mut records);
-    records
+/// The beams around 6.3.1v's limit, and the members of the grades from C50 on, each with marks from 1. They stand apart
+/// and change none of the other members.
+fn apart() -> [Vec<Record>; 2] {
+    let webs: Vec<Record> = webs::examples().into_iter().map(|(record, _)| record).collect();
+    let mut lists = [webs, grades::examples()];
+    lists.iter_mut().for_each(|records| number(records));
+    lists
+}
+
+/// A member of each kind alone, with some of the grades that are refused.
+fn lists_of_refused_grades() -> impl Iterator<Item = Vec<Record>> {
+    let wanted = |record: &Record| [0, 51, 56, 85, u32::MAX].contains(&grades::grade(record));
+    grades::refused().into_iter().filter(wanted).map(|record| vec![record])
 }
 
 /// A schedule and what is printed for it, or words and what is written for them.
@@ -218,13 +226,16 @@ impl Vector {
 
 /// A row of vectors and how many there are. The last two texts are wrong on purpose: whoever compares must count two unequal.
 pub fn vectors(random: &Random) -> (usize, Vec<u8>) {
-    let (members, webs) = (all_members(random), web_beams());
+    let (members, apart) = (all_members(random), apart());
     let mut schedules = schedules(&members, random);
-    schedules.extend(alone_and_together(&webs));
+    schedules.extend(apart.iter().flat_map(|records| alone_and_together(records)));
+    schedules.extend(grades::refused().into_iter().map(|record| encode(&[record])));
     let mut vectors: Vec<Vector> = schedules.into_iter().map(Vector::of_schedule).collect();
     let first_list = vectors.len();
     vectors.extend(lists::lists(&members, random).into_iter().map(Vector::of_words));
-    vectors.push(Vector::of_words(lists::together(&webs, random)));
+    for records in apart.into_iter().chain(lists_of_refused_grades()) {
+        vectors.push(Vector::of_words(lists::together(&records, random)));
+    }
     vectors.push(vectors[first_list].clone().wrong());
     vectors.push(vectors[0].clone().wrong());
     let mut row = Vec::new();

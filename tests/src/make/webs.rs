@@ -1,4 +1,4 @@
-//! Beams at the edges of 6.3.1v, V at most β·fc·b·h0 (document 02, wish 6).
+//! Beams at the edges of 6.3.1v, V at most β·βc·fc·b·h0 (document 02, wishes 6 and 7).
 
 use super::beams::{area, around, as_beam, DIAMETERS, GRADES};
 use super::points::first_beam;
@@ -87,7 +87,7 @@ fn webs() -> Vec<(u64, u64)> {
 }
 
 /// The beam as kind 1 and as kind 4, with its point load at this part of the span, in sixths.
-fn both_kinds(record: &Record, sixths: u64) -> [Record; 2] {
+pub(super) fn both_kinds(record: &Record, sixths: u64) -> [Record; 2] {
     let span = u64::from(record.fields[SPAN]);
     [record.clone(), record.point_loaded(span * sixths / 6)]
 }
@@ -111,11 +111,11 @@ fn around_capacity(record: &Record) -> [Record; 2] {
 }
 
 /// Beams of both kinds, every grade and every sort of web, with V around 6.3.1v's limit; of each web also with no V and
-/// the largest. Grades and places of the load take turns, each with each.
+/// the largest. Grades and places of the load take turns.
 pub fn directed() -> Vec<Record> {
     let mut records = Vec::new();
     for (turn, (b, h0)) in webs().into_iter().enumerate() {
-        let (grade, sixths) = (GRADES[turn % 7], turn as u64 / 7 % 7);
+        let (grade, sixths) = (GRADES[turn % GRADES.len()], turn as u64 % 7);
         for record in beams_of_web(b, h0, grade) {
             records.extend(both_kinds(&record, sixths).iter().flat_map(around_limit));
         }

@@ -2,6 +2,7 @@
 
 use super::member::{Bars, No, Numbers};
 use super::outcome::{Check, Outcome};
+use super::parameters::{Parameters, Ratio};
 use super::tables::{self, Concrete, LinkSteel, Steel};
 
 #[derive(Clone, Copy, Debug, PartialEq, Eq)]
@@ -136,9 +137,13 @@ impl Beam {
         fy * (self.tension.area as i64 - self.compression.area as i64)
     }
 
-    /// k = fc·b, tenths of N/mm.
+    pub fn parameters(&self) -> Parameters {
+        Parameters::of(self.concrete, self.steel)
+    }
+
+    /// k = α1·fc·b, thousandths of N/mm.
     pub fn block_force(&self) -> u64 {
-        self.concrete.fc * self.b
+        self.parameters().stress * self.concrete.fc * self.b
     }
 
     /// L, area of a link's legs, tenths of mm².
@@ -152,16 +157,21 @@ impl Beam {
         50 * steel >= gross && 1000 * steel * self.steel.fy >= 45 * self.concrete.ft * gross
     }
 
-    /// 4.2.2-3: compression depth within e·h0.
+    /// 4.2.2-3: compression depth within its part of h0.
     pub fn is_within_depth_limit(&self) -> bool {
-        let limit = self.steel.depth * self.h0() * self.block_force();
-        100 * self.net_force() <= limit as i64
+        self.is_within_depth(self.parameters().depth)
+    }
+
+    /// t at most this part of h0·k.
+    pub fn is_within_depth(&self, (upper, lower): Ratio) -> bool {
+        let limit = upper * self.h0() * self.block_force();
+        100 * lower as i64 * self.net_force() <= limit as i64
     }
 
     /// Whether the depth is below 2a', where 4.2.3 takes 4.2.2's place.
     pub fn is_shallow(&self) -> bool {
         self.compression.area > 0
-            && self.net_force() < (2 * self.cover_compression * self.block_force()) as i64
+            && 100 * self.net_force() < (2 * self.cover_compression * self.block_force()) as i64
     }
 
     /// 4.2.2 or 4.2.3: moment capacity, N·m.
@@ -171,14 +181,22 @@ impl Beam {
             return self.steel.fy * self.tension.area * lever / 10_000;
         }
         let t = self.net_force() as u64;
-        let doubled_block = 2 * self.block_force();
         let compression = self.steel.fy * self.compression.area * lever;
-        (doubled_block * (t * self.h0() + compression) - t * t) / (10_000 * doubled_block)
+        // Past 64 bits.
+        let without_block = u128::from(t * self.h0() + compression);
+        let (t, doubled_block) = (u128::from(t), 2 * u128::from(self.block_force()));
+        ((doubled_block * without_block - 100 * t * t) / (10_000 * doubled_block)) as u64
     }
 
-    /// What 6.3.1v holds V against, β·fc·b·h0 in N, as its upper and lower number: β is 0.25 where h0/b is at most
-    /// 4, 0.20 from 6, and 0.35 - h0/(40·b) between (document 02, wish 6).
-    pub fn web_limit(&self) -> (u64, u64) {
+    /// What 6.3.1v holds V against, β·βc·fc·b·h0 in N.
+    pub fn web_limit(&self) -> Ratio {
+        let (upper, lower) = self.unreduced_web_limit();
+        let web = self.parameters().web;
+        (web.0 * upper, web.1 * lower)
+    }
+
+    /// β·fc·b·h0: β is 0.25 where h0/b is at most 4, 0.20 from 6, and 0.35 - h0/(40·b) between (document 02, wish 6).
+    pub fn unreduced_web_limit(&self) -> Ratio {
         let (b, h0, fc) = (self.b, self.h0(), self.concrete.fc);
         if h0 <= 4 * b {
             (fc * b * h0, 40)
@@ -210,8 +228,8 @@ impl Beam {
         175 * self.concrete.ft * self.b * self.h0() * lower / (10_000 * (upper + lower))
     }
 
-    /// λ = a/h0 held to 1.5-3, as its upper and lower number.
-    pub fn shear_ratio(&self, distance: u64) -> (u64, u64) {
+    /// λ = a/h0 held to 1.5-3.
+    pub fn shear_ratio(&self, distance: u64) -> Ratio {
         let h0 = self.h0();
         if 2 * distance < 3 * h0 {
             (3, 2)

@@ -7,6 +7,7 @@ pub mod held;
 pub mod member;
 pub mod mesh;
 pub mod outcome;
+pub mod parameters;
 pub mod report;
 pub mod schedule;
 pub mod tables;

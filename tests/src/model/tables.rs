@@ -41,7 +41,7 @@ const fn concrete_row(grade: u64, fc: u64, ft: u64, ftk: u64, ec: u64) -> Concre
     Concrete { grade, fc, ft, ftk, ec }
 }
 
-static CONCRETES: [Concrete; 7] = [
+static CONCRETES: [Concrete; 13] = [
     concrete_row(20, 96, 110, 154, 25500),
     concrete_row(25, 119, 127, 178, 28000),
     concrete_row(30, 143, 143, 201, 30000),
@@ -49,11 +49,18 @@ static CONCRETES: [Concrete; 7] = [
     concrete_row(40, 191, 171, 239, 32500),
     concrete_row(45, 211, 180, 251, 33500),
     concrete_row(50, 231, 189, 264, 34500),
+    // document 02, wish 7
+    concrete_row(55, 253, 196, 274, 35500),
+    concrete_row(60, 275, 204, 285, 36000),
+    concrete_row(65, 297, 209, 293, 36500),
+    concrete_row(70, 318, 214, 299, 37000),
+    concrete_row(75, 338, 218, 305, 37500),
+    concrete_row(80, 359, 222, 311, 38000),
 ];
 
-/// The row of a grade 20, 25 .. 50.
+/// The row of a grade 20, 25 .. 80.
 pub fn concrete(grade: u64) -> Option<&'static Concrete> {
-    if !grade.is_multiple_of(5) || !(20..=50).contains(&grade) {
+    if !grade.is_multiple_of(5) || !(20..=80).contains(&grade) {
         return None;
     }
     CONCRETES.get((grade / 5 - 4) as usize)
@@ -68,7 +75,7 @@ pub struct Steel {
     pub fy: u64,
     /// Design compressive strength in axially loaded columns.
     pub axial: u64,
-    /// Depth limit e, hundredths of h0.
+    /// Depth limit e up to C50, hundredths of h0.
     pub depth: u64,
 }
 

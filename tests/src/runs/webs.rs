@@ -1,4 +1,4 @@
-//! What 6.3.1v is compared on: V at most β·fc·b·h0 (document 02, wish 6).
+//! What 6.3.1v is compared on: V at most β·βc·fc·b·h0 (document 02, wishes 6 and 7).
 
 use super::{answered, members, Outcome};
 use crate::branches::{Entry, ENTRIES};

@@ -7,13 +7,19 @@ use Rattle.bending.proofs.Tests.{yields-compared}
 use Rattle.bending.proofs.compression_yields.Statement.{statement}
 use Rattle.bending.proofs.compression_yields.Tie as tie
 
-mul-steel-2 : tie.Need-mul-steel-2
-mul-steel-2 c = rw (c .before .in-millimetres .ensures, c .block-force-per-mm .ensures) (omega (arith, sizes (c .before .before .pre)))
+mul-reach-2 : tie.Need-mul-reach-2
+mul-reach-2 c = rw (c .before .in-millimetres .ensures, c .block-force-per-mm .ensures) (omega (arith, sizes (c .before .before .pre)))
+
+mul-result : tie.Need-mul-result
+mul-result c = rw (c .compression-force .ensures) (omega (arith, sizes (c .before .before .before .pre)))
 
 add-result : tie.Need-add-result
 add-result c =
     let s = c .before .before in
-    rw (s .in-millimetres .ensures, c .before .block-force-per-mm .ensures) (omega (arith, sizes (s .before .pre)))
+    rw (c .compression-force .ensures, s .in-millimetres .ensures, c .before .block-force-per-mm .ensures) (omega (arith, sizes (s .before .pre)))
+
+mul-result-2 : tie.Need-mul-result-2
+mul-result-2 c = rw (c .tension-force .ensures) (omega (arith, sizes (c .before .before .before .before .pre)))
 
 returns : tie.Need-returns
 returns c =
@@ -28,8 +34,10 @@ compression-yields-spec =
     (λ c κs. search needs)
     (λ c. search needs)
     (λ c κs. search needs)
-    mul-steel-2
+    mul-reach-2
     (λ c κs. search needs)
+    mul-result
     add-result
     (λ c κs. search needs)
+    mul-result-2
     returns)

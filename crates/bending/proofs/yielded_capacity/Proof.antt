@@ -14,10 +14,12 @@ mul-div-up c =
     omega (arith, product-most t t 480000000 480000000 (omega (arith, sizes (c .before .pre .0))))
 
 mul-div-up-2 : tie.Need-mul-div-up-2
-mul-div-up-2 c = omega (arith, sizes (c .before .before .pre .0))
+mul-div-up-2 c =
+    let t = c .net-tension .result in
+    omega (arith, product-most t t 480000000 480000000 (omega (arith, sizes (c .before .pre .0))))
 
 div-up-requires : tie.Need-div-up-requires
-div-up-requires c κs = omega (arith, sizes (c .before .before .pre .0))
+div-up-requires c κs = rw (c .block-force-per-mm .ensures) (omega (arith, sizes (c .before .before .pre .0)))
 
 sub-div-down : tie.Need-sub-div-down
 sub-div-down c =
@@ -37,8 +39,8 @@ yielded-capacity-spec =
     (tie.spec
     (λ c κs. search needs)
     mul-div-up
-    (λ c κs. search needs)
     mul-div-up-2
+    (λ c κs. search needs)
     div-up-requires
     (λ c κs. search needs)
     sub-div-down

@@ -3,13 +3,13 @@ use mathlib.Core.Path.{sym, _∙_}
 use native.Mathlib.Omega.{arith}
 use Rattle.material.specs.Concrete.{concretes}
 use Rattle.table.proofs.Table.{unlisted-place}
-use Rattle.material.proofs.Materials.{grade-least, grade-at}
+use Rattle.material.proofs.Materials.{grade-between, grade-at}
 use borrow.Author.Needs.{needs}
 use Rattle.material.proofs.grade_row.Statement.{statement}
 use Rattle.material.proofs.grade_row.Tie as tie
 
 sub-result : tie.Need-sub-result
-sub-result c = omega (arith, grade-least (c .before .before .args .grade) (sym (c .before .is-grade .ensures) ∙ c .if1 .taken))
+sub-result c = omega (arith, grade-between (c .before .before .args .grade) (sym (c .before .is-grade .ensures) ∙ c .if1 .taken))
 
 returns : tie.Need-returns
 returns c = grade-at (c .before .before .args .grade) (sym (c .before .is-grade .ensures) ∙ c .if1 .taken)

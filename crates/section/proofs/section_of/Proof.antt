@@ -13,15 +13,23 @@ use Rattle.material.proofs.concrete_of.Reads as concrete-of-reads
 use Rattle.material.proofs.fyv_of.Reads as fyv-of-reads
 use Rattle.material.proofs.steel_of.Reads as steel-of-reads
 
+parameters-of-requires : tie.Need-parameters-of-requires
+parameters-of-requires c κs =
+    let t = c .before .before .before .before .before .before .before .before .before in
+    let s = t .before .before .before .before .before .before .before .before .before .before in
+    (s .pre .concrete, s .pre .steel)
+
 returns : tie.Need-returns
 returns c =
-    let k = c .before .before .before .before .before in
+    let f = c .before in
+    let k = f .before .before .before .before .before in
     let b = k .before .before in
     let t = b .before .before in
     rw (b .in-millimetres .ensures, k .before .in-millimetres2 .ensures)
-    (made (t .before .before .before .before .before .before .before .before .before .before .args .x) _ _ _ _ _ _ _ _
+    (made (t .before .before .before .before .before .before .before .before .before .before .args .x) _ _ _ _ _ _ _ _ _
     (b .before .effective-depth .ensures) (k .flange-area .ensures) (t .totals-of .ensures)
-    (c .before .before .before .before .steel-area .ensures) (c .before .before .before .link-area .ensures) (c .before .before .concrete-of .ensures) (c .before .steel-of .ensures) (c .fyv-of .ensures))
+    (f .before .before .before .before .steel-area .ensures) (f .before .before .before .link-area .ensures) (f .before .before .concrete-of .ensures) (f .before .steel-of .ensures) (f .fyv-of .ensures)
+    (c .parameters-of .ensures))
 
 pub section-of-spec : {M : Type 1} → statement M
 section-of-spec =
@@ -37,4 +45,5 @@ section-of-spec =
     (λ c κs. search needs)
     (λ c κs. search needs)
     (λ c κs. search needs)
+    parameters-of-requires
     returns)

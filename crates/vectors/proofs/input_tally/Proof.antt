@@ -22,7 +22,7 @@ row-tally-requires c κs = omega (arith, long (c .before .before))
 add-t8 : tie.Need-add-t8
 add-t8 c =
     let x = c .before .before .before .before .before .args in
-    omega (arith, c .before .before .row-tally .ensures .1, c .before .one-if .ensures, one-most (ltb 250000 (x .n)))
+    omega (arith, c .before .before .row-tally .ensures .1, c .before .one-if .ensures, one-most (ltb 320000 (x .n)))
 
 returns : tie.Need-returns
 returns c =

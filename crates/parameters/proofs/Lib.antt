@@ -1,0 +1,2 @@
+pub mod Usable
+pub mod Clauses
