@@ -1,4 +1,6 @@
 // The anchorage of a mesh (5.2.5).
+#![tactic(auto)]
+
 ghost use Rattle.std.specs.Prelude.{◌≡◌, ◌≤◌};
 ghost use Rattle.member.specs.Member.{mesh_of};
 ghost use Rattle.member.specs.Accepted.{AcceptedMesh};

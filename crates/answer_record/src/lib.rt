@@ -1,4 +1,6 @@
 // Answers as structs of numbers, for callers in C and Rust: the question that was answered no, or 0.
+#![tactic(auto)]
+
 ghost use Rattle.std.specs.Prelude.{◌≡◌};
 ghost use Rattle.text_answer.specs.Printed.{numbers_of};
 ghost use Rattle.governing.specs.Governing.{governing_value};
@@ -14,7 +16,7 @@ use text_answer::TextAnswer;
 // An answer: question 0 says that the text, or the file, stands in the buffer's first `length` bytes; any other names the question that was answered
 // no and the member, and the buffer is as it was.
 #[repr(C)]
-#[derive(Drop)]
+#[derive(Clone, Copy)]
 pub struct AnswerRecord {
     pub question: u32,
     pub member: u32,
@@ -45,7 +47,7 @@ pub fn answer_record(a: TextAnswer) -> AnswerRecord
 // The utilization of a member: question 0 says that it was given; any other names the question that was answered no and the member.
 // `governing` is the largest utilization reached, where `governs` says that any was.
 #[repr(C)]
-#[derive(Drop)]
+#[derive(Clone, Copy)]
 pub struct UtilizationRecord {
     pub question: u32,
     pub member: u32,

@@ -1,4 +1,6 @@
 // The axial capacity of a column (4.2.4), and the checks that it rests on: 5.6.1 and 4.2.4s.
+#![tactic(auto)]
+
 ghost use Rattle.std.specs.Prelude.{◌≡◌, true, ◌*◌, ◌≤◌};
 ghost use Rattle.member.specs.Member.{column_of};
 ghost use Rattle.member.specs.Accepted.{AcceptedColumn};
@@ -56,7 +58,7 @@ fn concrete_area(gross: u64, bars: u64) -> u64
     }
 }
 
-// typeof.fc.A + fy'·S, in hundredths of N.
+// fc·A + fy'·S, in hundredths of N.
 fn squash_load(x: Column, concrete: Concrete, steel: Steel) -> u64
     requires { (Given (column_of x) concrete steel) × (steel_fits (column_of x) ≡ true) }
     ensures { result ≡ squash_load (column_of x) concrete steel }

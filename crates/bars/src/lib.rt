@@ -1,4 +1,6 @@
 // Groups of bars: their number, area and diameters summed.
+#![tactic(auto)]
+
 ghost use Rattle.std.specs.Prelude.{◌≡◌, min, take};
 ghost use Rattle.bars.specs.Sums.{bar_count, area, group_area, group_diameters, group_squares, added, TotalsFit, TotalsOf};
 ghost use Rattle.bars.specs.Accepted.{AcceptedGroup, AcceptedGroups};
@@ -8,14 +10,14 @@ use quantity::{larger, smaller, widen};
 
 // Bars of one diameter (mm).
 #[repr(C)]
-#[derive(Drop)]
+#[derive(Clone, Copy)]
 pub struct Group {
     pub diameter: u32,
     pub bars: u32,
 }
 
 // Over groups of bars: their number, their area (tenths of mm²), n·d, n·d², and the largest and the smallest diameter.
-#[derive(Drop)]
+#[derive(Clone, Copy)]
 pub struct Totals {
     pub bars: u64,
     pub area: u64,

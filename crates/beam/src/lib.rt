@@ -1,4 +1,6 @@
 // The checks of a beam.
+#![tactic(auto)]
+
 ghost use Rattle.std.specs.Prelude.{◌≡◌, true, ◌*◌, ◌≤◌};
 ghost use Rattle.member.specs.Member.{beam_of};
 ghost use Rattle.member.specs.Accepted.{AcceptedBeam};

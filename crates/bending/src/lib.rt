@@ -1,4 +1,6 @@
 // Bending of beams: least steel, depth of the compression zone and moment capacity.
+#![tactic(auto)]
+
 ghost use Rattle.std.specs.Prelude.{◌≡◌, true, ◌-◌};
 ghost use Rattle.section.specs.Section.{h₀, a', G};
 ghost use Rattle.section.specs.Bounded.{Bounded};
@@ -30,7 +32,7 @@ pub fn least_steel(x: Section) -> bool
     }
 }
 
-// typeof.fy.S, in tenths of N.
+// fy·S, in tenths of N.
 fn tension_force(x: Section) -> u64
     requires { Bounded x }
     ensures { result ≡ tension_force x }

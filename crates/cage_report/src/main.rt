@@ -1,4 +1,6 @@
 // The report program, run on document 01's schedule of three members.
+#![tactic(auto)]
+
 use console::run;
 
 fn main() {

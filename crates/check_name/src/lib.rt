@@ -1,4 +1,6 @@
 // The printed words of the checks.
+#![tactic(auto)]
+
 ghost use Rattle.std.specs.Prelude.{◌≡◌};
 ghost use Rattle.text.specs.Text.{word_text};
 ghost use Rattle.outcome.specs.Outcome.{name_of};

@@ -1,4 +1,6 @@
 // The checks of any member, by its kind.
+#![tactic(auto)]
+
 ghost use Rattle.std.specs.Prelude.{◌≡◌};
 ghost use Rattle.member.specs.Accepted.{AcceptedMember};
 ghost use Rattle.field_layout.specs.Layout.{member_at};

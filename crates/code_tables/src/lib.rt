@@ -1,4 +1,6 @@
 // The tables of the codes besides materials: bars, slenderness, mesh, spacing of links.
+#![tactic(auto)]
+
 ghost use Rattle.std.specs.Prelude.{◌≡◌, true, [], ◌≤◌, ◌/◌, ◌%◌, get_or};
 ghost use Rattle.quantity.specs.Unit.{millimetres};
 ghost use Rattle.table.specs.Table.{listed};

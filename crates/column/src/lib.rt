@@ -1,4 +1,6 @@
 // Columns: the checks in their order, up to the first that fails.
+#![tactic(auto)]
+
 ghost use Rattle.std.specs.Prelude.{◌≡◌, true};
 ghost use Rattle.material.specs.Concrete.{concrete_of};
 ghost use Rattle.material.specs.Steel.{steel_of};

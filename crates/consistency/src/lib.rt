@@ -1,4 +1,6 @@
 // Question 8: whether the fields of a member fit each other.
+#![tactic(auto)]
+
 ghost use Rattle.std.specs.Prelude.{◌≡◌, eqb, take, length};
 ghost use Rattle.member.specs.Member.{beam_of, column_of, mesh_of};
 ghost use Rattle.consistency.specs.Consistency.{flange_fits, compression_fits, depth_fits, load_fits, beam_consistent, column_consistent, mesh_consistent};

@@ -1,10 +1,12 @@
 // A schedule's bytes from standard input, the report or the refusal to standard output; a failure in one line on standard error.
+#![tactic(auto)]
+
 ghost use Rattle.std.specs.Prelude.{◌<◌, length};
 ghost use Rattle.console.specs.Input.{ReadInto};
 
 use program_output::print_schedule;
 
-#[derive(Drop)]
+#[derive(Clone, Copy)]
 enum Input {
     // how many bytes stand at the buffer's start: the whole input, or as much of it as there is room for
     Bytes(usize),

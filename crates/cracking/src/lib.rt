@@ -1,4 +1,6 @@
 // Cracking of a beam under service loads: steel stress (4.4.1), crack width (4.4.2).
+#![tactic(auto)]
+
 ghost use Rattle.std.specs.Prelude.{◌≡◌, true, ◌*◌, ◌≤◌};
 ghost use Rattle.section.specs.Section.{b, c, G, W, S};
 ghost use Rattle.section.specs.Bounded.{Bounded};

@@ -1,4 +1,6 @@
 // Deflection of a beam (4.5.1).
+#![tactic(auto)]
+
 ghost use Rattle.std.specs.Prelude.{◌≡◌, ◌*◌, ◌≤◌};
 ghost use Rattle.section.specs.Section.{b, h₀, S};
 ghost use Rattle.section.specs.Bounded.{Bounded};

@@ -1,4 +1,6 @@
 // The bytes of a schedule's members, put into a lent buffer (request 2). A number is put in shortest form, a member as its mark, kind and fields.
+#![tactic(auto)]
+
 ghost use Rattle.std.specs.Prelude.{◌≡◌, true, ◌+◌, ◌-◌, ◌*◌, ◌≤◌};
 ghost use Rattle.text.specs.Put.{Put};
 ghost use Rattle.varint.specs.Encoding.{bytes_of};

@@ -1,4 +1,6 @@
 // A member in slots, and question 7 of it. Fields are joined from the last to the first, as the definition nests them.
+#![tactic(auto)]
+
 ghost use Rattle.std.specs.Prelude.{◌≡◌, ◌+◌, ◌<◌, take, drop};
 ghost use Rattle.field_table.specs.Fields.{groups, shear_span, beam_fields, load_fields, beam_fields_of, column_fields, mesh_fields, fields_of};
 ghost use Rattle.field_check.specs.FieldCheck.{fields_hold};
@@ -11,7 +13,7 @@ use field_table::{
 use quantity::and;
 
 // A member's fields, one to a slot in the order of its kind's table, four groups to each list. Slots past a count are not read.
-#[derive(Drop)]
+#[derive(Clone, Copy)]
 pub struct Slots {
     pub v: [u32; 40],
 }

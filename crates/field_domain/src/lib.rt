@@ -1,4 +1,6 @@
 // What a field may hold, and question 7 of one field.
+#![tactic(auto)]
+
 ghost use Rattle.std.specs.Prelude.{◌≡◌, ◌<◌, ltb, get_or};
 ghost use Rattle.field_domain.specs.Domain.{in_range, bar, group_diameter, group_bars, holds, is_present, field_holds};
 
@@ -7,7 +9,7 @@ use material::{is_grade, is_link_steel, is_steel};
 use quantity::{and, or};
 
 // What a field may hold.
-#[derive(Drop)]
+#[derive(Clone, Copy)]
 pub enum Domain {
     // from the first number to the second
     Range(u32, u32),

@@ -1,4 +1,6 @@
 // Which slot holds which field: the slots of a member as the fields of a beam, a column or a mesh.
+#![tactic(auto)]
+
 ghost use Rattle.std.specs.Prelude.{◌≡◌, ◌+◌, ◌<◌, [], ◌∷◌, get_or};
 ghost use Rattle.member.specs.Member.{beam_of, column_of, mesh_of};
 ghost use Rattle.field_table.specs.Fields.{shear_span};

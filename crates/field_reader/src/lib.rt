@@ -1,4 +1,6 @@
 // The reader: the numbers of a member that the validator accepted. It asks no question, since each was answered yes.
+#![tactic(auto)]
+
 ghost use Rattle.std.specs.Prelude.{◌≡◌, ◌+◌, ◌-◌, ◌<◌, ◌≤◌, ◌^◌, drop};
 ghost use Rattle.varint.specs.Varint.{number_at, septets_at};
 ghost use Rattle.field_table.specs.Fields.{beam_links, groups, beam_fields_of, column_fields, fields_of};
@@ -14,7 +16,7 @@ use field_validator::at_most_four;
 use varint::{Number, widen};
 
 // A number, and the place after its last septet.
-#[derive(Drop)]
+#[derive(Clone, Copy)]
 pub struct NumberRead {
     pub value: u32,
     pub next: usize,

@@ -1,11 +1,13 @@
 // The fields of each kind of member in the order of a schedule, each with its domain.
+#![tactic(auto)]
+
 ghost use Rattle.std.specs.Prelude.{◌≡◌, true, ◌<◌, length, get_or};
 ghost use Rattle.field_table.specs.Fields.{groups, beam_fields_of, column_fields, mesh_fields, known, kind_of, fields_of};
 
 use field_domain::{Domain, in_range};
 
 // The kinds of member. A beam: whether it is under a point load (kind 4) or not (kind 1).
-#[derive(Drop)]
+#[derive(Clone, Copy)]
 pub enum MemberKind {
     Beam(bool),
     Column,

@@ -1,4 +1,6 @@
 // The validator of a member's fields: one by one, each held to its domain, or all at once.
+#![tactic(auto)]
+
 ghost use Rattle.std.specs.Prelude.{◌≡◌, ◌+◌, ◌-◌, ◌≤◌, min, drop};
 ghost use Rattle.field_domain.specs.Domain.{holds};
 ghost use Rattle.field_table.specs.Fields.{beam_links, groups, beam_fields_of, column_fields, fields_of};
@@ -19,7 +21,7 @@ use question::{Question, Verdict};
 use varint::{Number, number_at};
 
 // Fields validated so far: refused, or the slots and the place after the last field.
-#[derive(Drop)]
+#[derive(Clone, Copy)]
 pub struct FieldsRead {
     pub verdict: Verdict,
     pub next: usize,
@@ -27,7 +29,7 @@ pub struct FieldsRead {
 }
 
 // Where numbers taken into slots end: the place after them, or the refusal of one.
-#[derive(Drop)]
+#[derive(Clone, Copy)]
 pub enum FieldsEnd {
     To(usize),
     Refused(Question),

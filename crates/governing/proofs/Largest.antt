@@ -92,12 +92,12 @@ taken (double y) true z x e = pick (lt y z) e
 
 from_nonneg : (g : DoubleOrNone) (rs : List Ratio) → FairSoFar g → FiniteNonneg rs → FairSoFar (governing_from g rs)
 from_nonneg g [] p f = p
-from_nonneg g (r ∷ rs) p f = from_nonneg _ rs (stays_nonneg g r.reached r.value p f.0) f.1
+from_nonneg g (r ∷ rs) p f = from_nonneg (including g r.reached r.value) rs (stays_nonneg g r.reached r.value p f.0) f.1
 
 from_covered : (g : DoubleOrNone) (rs : List Ratio) (x : Float) → FairSoFar g → FiniteNonneg rs → Covers g x → Covers (governing_from g rs) x
 from_covered g [] x p f h = h
 from_covered g (r ∷ rs) x p f h =
-    from_covered _ rs x (stays_nonneg g r.reached r.value p f.0) f.1 (stays_covered g r.reached r.value x p f.0 h)
+    from_covered (including g r.reached r.value) rs x (stays_nonneg g r.reached r.value p f.0) f.1 (stays_covered g r.reached r.value x p f.0 h)
 
 from_among : (g : DoubleOrNone) (rs : List Ratio) (x : Float) → FairSoFar g → FiniteNonneg rs → Among rs x → Covers (governing_from g rs) x
 from_among g [] x p f a = absurd a
@@ -105,7 +105,7 @@ from_among g (r ∷ rs) x p f a =
     let q = stays_nonneg g r.reached r.value p f.0 in
     ⊎_elim
     (λ e. from_covered _ rs x q f.1 (rw (← e.1) (covers_it g r.reached r.value e.0 p f.0)))
-    (λ b. from_among _ rs x q f.1 b)
+    (λ b. from_among (including g r.reached r.value) rs x q f.1 b)
     a
 
 from_reached : (g : DoubleOrNone) (rs : List Ratio) (x : Float) → governing_from g rs ≡ double x → (g ≡ double x) ⊎ Among rs x
@@ -114,7 +114,7 @@ from_reached g (r ∷ rs) x e =
     ⊎_elim
     (λ d. ⊎_elim (λ k. inl k) (λ k. inr (inl k)) (taken g r.reached r.value x d))
     (λ a. inr (inr a))
-    (from_reached _ rs x e)
+    (from_reached (including g r.reached r.value) rs x e)
 
 -- ---- What governs.
 

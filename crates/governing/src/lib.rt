@@ -1,10 +1,12 @@
 // The governing utilization.
+#![tactic(auto)]
+
 ghost use Rattle.std.specs.Prelude.{◌≡◌};
 ghost use Rattle.governing.specs.Governing.{governing_value, including, Governs};
 
 use ratio::Utilization;
 
-#[derive(Drop)]
+#[derive(Clone, Copy)]
 pub enum Governing {
     // the largest of those reached
     Largest(f64),

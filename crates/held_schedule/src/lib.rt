@@ -1,5 +1,7 @@
 // A schedule held in memory: words that a caller lends, 42 to each member. The validator puts the questions to its members;
 // the reader takes a member out.
+#![tactic(auto)]
+
 ghost use Rattle.std.specs.Prelude.{◌≡◌, ◌+◌, ◌*◌, ◌≤◌, length};
 ghost use Rattle.field_layout.specs.Layout.{part};
 ghost use Rattle.members.specs.MembersResult.{headed};

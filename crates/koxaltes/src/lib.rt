@@ -1,4 +1,6 @@
 // The entries for callers in C and Rust: what crosses is a struct by value, a pointer with a length, a number. Every entry takes any input.
+#![tactic(auto)]
+
 ghost use Rattle.std.specs.Prelude.{◌≡◌};
 ghost use Rattle.verdict.specs.Built.{member_of};
 ghost use Rattle.lent_member.specs.Lent.{lent_member};

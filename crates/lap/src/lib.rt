@@ -1,4 +1,6 @@
 // The lap of a mesh (5.3.7).
+#![tactic(auto)]
+
 ghost use Rattle.std.specs.Prelude.{◌≡◌};
 ghost use Rattle.member.specs.Member.{mesh_of};
 ghost use Rattle.member.specs.Accepted.{AcceptedMesh};

@@ -1,4 +1,6 @@
 // Groups of bars copied out of lists that a caller lends. Nothing past a count is read.
+#![tactic(auto)]
+
 ghost use Rattle.std.specs.Prelude.{◌≡◌, get_or, take};
 ghost use Rattle.lent_groups.specs.CopiedGroups.{no_group, first_four};
 

@@ -1,4 +1,6 @@
 // A built member whose groups of bars are lent beside it as lists. Lent is document 01's word for borrowed: the caller keeps the list.
+#![tactic(auto)]
+
 ghost use Rattle.std.specs.Prelude.{◌≡◌, ◌+◌, ◌≤◌, set};
 ghost use Rattle.std.proofs.lemmas.List.Edits.{sets};
 ghost use Rattle.field_table.specs.Fields.{kind_of};
@@ -19,14 +21,14 @@ use verdict::Built;
 
 // The fields of a kind in the order of a schedule, without the groups: 21 of a beam and one more under a point load, 9 of a column, 11 of a mesh. Those past them have no effect.
 #[repr(C)]
-#[derive(Drop)]
+#[derive(Clone, Copy)]
 pub struct Fields {
     pub v: [u32; 24],
 }
 
 // A built member; its groups are lent beside it.
 #[repr(C)]
-#[derive(Drop)]
+#[derive(Clone, Copy)]
 pub struct Lent {
     pub mark: u32,
     pub kind: u32,

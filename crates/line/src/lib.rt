@@ -1,4 +1,6 @@
 // The printed lines: a report's first line, a member's line, a refusal.
+#![tactic(auto)]
+
 ghost use Rattle.std.specs.Prelude.{◌∷◌, ◌++◌, []};
 ghost use Rattle.text.specs.Text.{decimal, word_text};
 ghost use Rattle.text.specs.Put.{Put};

@@ -1,4 +1,6 @@
 // Concrete and steel of the codes: their tables, and what the checks use of them.
+#![tactic(auto)]
+
 ghost use Rattle.std.specs.Prelude.{◌≡◌, [], get_or};
 ghost use Rattle.quantity.specs.Unit.{stress_of, stress_of_tenths, stress_of_hundredths};
 ghost use Rattle.table.specs.Table.{place, listed};
@@ -8,7 +10,7 @@ ghost use Rattle.material.specs.Steel.{steels, steel_of, link_steels, fyv_of};
 use quantity::Stress;
 
 // What the checks use of a concrete: the strengths fc, ft and ftk, and the modulus Ec.
-#[derive(Drop)]
+#[derive(Clone, Copy)]
 pub struct Concrete {
     pub fc: Stress,
     pub ft: Stress,
@@ -17,7 +19,7 @@ pub struct Concrete {
 }
 
 // What the checks use of the bars' steel: fyk, fy, fy' (fyc), fy' under axial load, and the depth limit e up to C50, in hundredths.
-#[derive(Drop)]
+#[derive(Clone, Copy)]
 pub struct Steel {
     pub fyk: Stress,
     pub fy: Stress,
@@ -165,7 +167,7 @@ pub fn is_steel(code: u32) -> bool
 
 // A steel from its strengths in N/mm² and its depth limit.
 fn steel_row(fyk: u32, fy: u32, fyc: u32, axial: u32, depthLimit: u32) -> Steel
-    ensures { result ≡ record { fyk = stress_of fyk; fy = stress_of fy; fyc = stress_of fyc; axial = stress_of axial; depthLimit = depth_limit } }
+    ensures { result ≡ record { fyk = stress_of fyk; fy = stress_of fy; fyc = stress_of fyc; axial = stress_of axial; depthLimit = depthLimit } }
 {
     Steel {
         fyk: Stress::of_units(fyk),

@@ -1,4 +1,6 @@
 // Members of a schedule by value: beams, columns and meshes with their groups of bars.
+#![tactic(auto)]
+
 ghost use Rattle.std.specs.Prelude.{◌≡◌};
 ghost use Rattle.member.specs.Member.{h₀, beam_of};
 
@@ -6,14 +8,14 @@ use bars::Group;
 use quantity::{Force, Length};
 
 // The load of a beam: uniform (kind 1), or mostly one load, at the distance a from the support (kind 4).
-#[derive(Drop)]
+#[derive(Clone, Copy)]
 pub enum Load {
     Uniform,
     Point(Length),
 }
 
 // Kinds 1 and 4. Only the first `tensions` and `compressions` groups are there.
-#[derive(Drop)]
+#[derive(Clone, Copy)]
 pub struct Beam {
     pub b: Length,
     pub h: Length,
@@ -45,7 +47,7 @@ pub struct Beam {
 }
 
 // Kind 2. Only the first `count` groups are there.
-#[derive(Drop)]
+#[derive(Clone, Copy)]
 pub struct Column {
     pub b: Length,
     pub h: Length,
@@ -60,7 +62,7 @@ pub struct Column {
 }
 
 // Kind 3. The last two are the lengths given.
-#[derive(Drop)]
+#[derive(Clone, Copy)]
 pub struct Mesh {
     pub family: u32,
     pub concrete: u32,

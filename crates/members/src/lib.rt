@@ -1,5 +1,7 @@
 // The members of a schedule. The validator goes through them one after the other: where they end, or the first question answered no,
 // with its member. The reader takes an accepted one again.
+#![tactic(auto)]
+
 ghost use Rattle.std.specs.Prelude.{◌≡◌, ◌≤◌};
 ghost use Rattle.question.specs.Reading.{got, no, Got};
 ghost use Rattle.field_validator.specs.Placed.{placed, of_number};
@@ -17,7 +19,7 @@ use varint::{Number, number_at};
 use verdict::{mark_in_range, member_verdict};
 
 // A member validated: refused, or its mark and the place after it.
-#[derive(Drop)]
+#[derive(Clone, Copy)]
 pub struct MemberValidated {
     pub verdict: Verdict,
     pub mark: u32,
@@ -25,7 +27,7 @@ pub struct MemberValidated {
 }
 
 // The mark and kind of a member, and the place after it.
-#[derive(Drop)]
+#[derive(Clone, Copy)]
 pub struct Head {
     pub mark: u32,
     pub kind: u32,
@@ -33,7 +35,7 @@ pub struct Head {
 }
 
 // Where a row of members ends, or the refusal.
-#[derive(Drop)]
+#[derive(Clone, Copy)]
 pub enum MembersEnd {
     At(usize),
     Refused(Refusal),

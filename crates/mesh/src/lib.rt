@@ -1,4 +1,6 @@
 // Meshes: the checks in their order, up to the first that fails.
+#![tactic(auto)]
+
 ghost use Rattle.std.specs.Prelude.{◌≡◌};
 ghost use Rattle.member.specs.Member.{mesh_of};
 ghost use Rattle.member.specs.Accepted.{AcceptedMesh};

@@ -1,8 +1,10 @@
 // What the checks of a member come to: the first failed check or OK, and up to four figures.
+#![tactic(auto)]
+
 ghost use Rattle.std.specs.Prelude.{◌≡◌};
 ghost use Rattle.outcome.specs.Outcome.{no_figure, one_figure, two_figures, three_figures, four_figures};
 
-#[derive(Drop)]
+#[derive(Clone, Copy)]
 pub enum Check {
     // Every check holds: `OK`.
     Passed,
@@ -43,14 +45,14 @@ pub enum Check {
 }
 
 // A figure of the line, or none where its check was not reached.
-#[derive(Drop)]
+#[derive(Clone, Copy)]
 pub enum Figure {
     Reached(u64),
     Unreached,
 }
 
 // Beams: moment (N·m), shear (N), width (0.001 mm), deflection (0.01 mm); columns: axial force (N); meshes: anchorage, lap (mm).
-#[derive(Drop)]
+#[derive(Clone, Copy)]
 pub struct Outcome {
     pub check: Check,
     pub first: Figure,

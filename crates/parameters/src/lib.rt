@@ -1,4 +1,6 @@
 // What the checks of a beam use of its concrete and its steel together: stress factor, web factor and depth limit.
+#![tactic(auto)]
+
 ghost use Rattle.std.specs.Prelude.{◌≡◌, true, ◌-◌, ◌≤◌};
 ghost use Rattle.table.specs.Table.{listed};
 ghost use Rattle.material.specs.Concrete.{concretes};
@@ -10,14 +12,14 @@ use material::{Steel, steel_of};
 use quantity::{saturating_sub, widen};
 
 // A depth limit ξb as a fraction.
-#[derive(Drop)]
+#[derive(Clone, Copy)]
 pub struct DepthLimit {
     pub num: u64,
     pub den: u64,
 }
 
 // α1 in hundredths, βc in thirtieths, ξb.
-#[derive(Drop)]
+#[derive(Clone, Copy)]
 pub struct Parameters {
     pub stressFactor: u64,
     pub webFactor: u64,

@@ -1,4 +1,6 @@
 // What the report program prints, into a lent buffer.
+#![tactic(auto)]
+
 ghost use Rattle.program_output.specs.ProgramOutput.{PrintedSchedule};
 
 use line::put_refusal;

@@ -1,4 +1,6 @@
 // Whole-number arithmetic with stated rounding, and the codes' units as types of their own.
+#![tactic(auto)]
+
 ghost use Rattle.std.specs.Prelude.{◌≡◌, ◌&&◌, ◌||◌, ◌+◌, ◌-◌, ◌*◌, ◌<◌, ◌^◌, min, max};
 ghost use Rattle.quantity.specs.Choice.{if◌then◌else◌};
 ghost use Rattle.quantity.specs.Rounding.{up, down, clamp};
@@ -102,15 +104,15 @@ pub fn widen(x: u32) -> u64
 }
 
 // Newtons.
-#[derive(Drop)]
+#[derive(Clone, Copy)]
 pub struct Force(pub u64);
 
 // Millimetres.
-#[derive(Drop)]
+#[derive(Clone, Copy)]
 pub struct Length(pub u64);
 
 // Hundredths of a newton per square millimetre.
-#[derive(Drop)]
+#[derive(Clone, Copy)]
 pub struct Stress(pub u64);
 
 impl Force {

@@ -1,9 +1,11 @@
 // The questions that a schedule or a member is put before any check (document 01, "Questions before any check"; 13 and 14: document 02, requests 2 and 5).
 // A question is a rule of validation. Input that gets a no is refused: the first no is the answer, and nothing is checked.
+#![tactic(auto)]
+
 ghost use Rattle.std.specs.Prelude.{◌≡◌};
 ghost use Rattle.question.specs.Question.{number_of};
 
-#[derive(Drop)]
+#[derive(Clone, Copy)]
 pub enum Question {
     // 1: is the schedule at most 60,000 bytes?
     Size,
@@ -36,7 +38,7 @@ pub enum Question {
 }
 
 // What questions put one after the other come to.
-#[derive(Drop)]
+#[derive(Clone, Copy)]
 pub enum Verdict {
     Accepted,
     // the first question that is answered no
@@ -45,7 +47,7 @@ pub enum Verdict {
 
 // A no: the question, and the member's place in the schedule, from 1.
 // The place is 0 for questions 1, 4, 11, 12 and 13 of a schedule, and for 2 and 3 put to the count itself; a built member's refusals all have 1.
-#[derive(Drop)]
+#[derive(Clone, Copy)]
 pub struct Refusal {
     pub question: Question,
     pub member: u32,

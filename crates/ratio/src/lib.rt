@@ -1,4 +1,6 @@
 // One utilization as a double, and the record of a member's four.
+#![tactic(auto)]
+
 ghost use Rattle.std.specs.Prelude.{◌≡◌, ◌<◌, ◌^◌};
 ghost use Rattle.ratio.specs.Ratio.{quotient, no_ratio, ratio, over_figure, over_limit, four_ratios, ExactFigure};
 
@@ -6,7 +8,7 @@ use outcome::Figure;
 
 // Beams: moment, shear, width, deflection; columns: axial force; meshes: anchorage, lap. A value is 0.0 where its mark is false.
 #[repr(C)]
-#[derive(Drop)]
+#[derive(Clone, Copy)]
 pub struct Utilization {
     pub first: f64,
     pub second: f64,
@@ -19,7 +21,7 @@ pub struct Utilization {
 }
 
 // One of the four: none where the figure was not reached or the divisor is 0.
-#[derive(Drop)]
+#[derive(Clone, Copy)]
 pub struct Ratio {
     pub value: f64,
     pub reached: bool,

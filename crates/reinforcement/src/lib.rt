@@ -1,4 +1,6 @@
 // Questions 9 and 10: the number of bars, and the steel ratio of a beam.
+#![tactic(auto)]
+
 ghost use Rattle.std.specs.Prelude.{◌≡◌};
 ghost use Rattle.member.specs.Member.{beam_of, column_of};
 ghost use Rattle.reinforcement.specs.Reinforcement.{beam_bars, beam_ratio, column_bars};

@@ -1,4 +1,6 @@
 // The report of a schedule, and the line of one built member, into a lent buffer.
+#![tactic(auto)]
+
 ghost use Rattle.std.specs.Prelude.{◌≡◌};
 ghost use Rattle.varint.specs.Varint.{number_at};
 ghost use Rattle.report.specs.Report.{after_number};

@@ -1,4 +1,6 @@
 // The text of the report of members that stand in a schedule's bytes, put into a lent buffer.
+#![tactic(auto)]
+
 ghost use Rattle.std.specs.Prelude.{◌++◌};
 ghost use Rattle.text.specs.Put.{Put};
 ghost use Rattle.line.specs.Line.{head_words, line_text};

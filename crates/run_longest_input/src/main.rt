@@ -1,4 +1,6 @@
 // The report program, run on 60,000 bytes, as many as a schedule may have: document 01's members and zeros after them.
+#![tactic(auto)]
+
 use console::run;
 
 fn main() {

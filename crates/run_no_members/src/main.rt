@@ -1,4 +1,6 @@
 // The report program, run on a schedule of no members.
+#![tactic(auto)]
+
 use console::run;
 
 fn main() {

@@ -1,4 +1,6 @@
 // The report program, run on a schedule whose second member has a field out of range.
+#![tactic(auto)]
+
 use console::run;
 
 fn main() {

@@ -1,4 +1,6 @@
 // Every byte string is accepted as a schedule, or gets the first question answered no, with its member.
+#![tactic(auto)]
+
 ghost use Rattle.std.specs.Prelude.{◌≡◌};
 ghost use Rattle.question.specs.Reading.{refusal};
 ghost use Rattle.schedule.specs.Schedule.{schedule, schedule_answer};
@@ -7,7 +9,7 @@ use members::{MembersEnd, validate_members};
 use question::{Question, Refusal};
 use varint::{Number, number_at};
 
-#[derive(Drop)]
+#[derive(Clone, Copy)]
 pub enum ScheduleAnswer {
     // every question is passed; the number of members
     Accepted(u32),

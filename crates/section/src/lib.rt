@@ -1,4 +1,6 @@
 // What the checks of a beam use of its fields: dimensions, areas, sums over its bars, and the values of its materials.
+#![tactic(auto)]
+
 ghost use Rattle.std.specs.Prelude.{◌≡◌};
 ghost use Rattle.member.specs.Member.{beam_of};
 ghost use Rattle.member.specs.Accepted.{AcceptedBeam};
@@ -12,7 +14,7 @@ use parameters::{Parameters, parameters_of};
 use quantity::{Force, Length, Stress, widen};
 
 // Document 01's symbols stand beside the fields.
-#[derive(Drop)]
+#[derive(Clone, Copy)]
 pub struct Section {
     // b, h, h0 (effective depth), a'
     pub b: Length,

@@ -1,4 +1,6 @@
 // Question 14: the service moment of a beam against its design moment.
+#![tactic(auto)]
+
 ghost use Rattle.std.specs.Prelude.{◌≡◌};
 ghost use Rattle.member.specs.Member.{beam_of};
 ghost use Rattle.service_moment.specs.ServiceMoment.{service_moment_fits};

@@ -1,4 +1,6 @@
 // The checks of a beam under service loads.
+#![tactic(auto)]
+
 ghost use Rattle.std.specs.Prelude.{◌≡◌, true, ◌*◌, ◌≤◌};
 ghost use Rattle.section.specs.Section.{G, S};
 ghost use Rattle.section.specs.Bounded.{Bounded};

@@ -1,4 +1,6 @@
 // Shear and links of beams: the shear check, spacing of links, least links.
+#![tactic(auto)]
+
 ghost use Rattle.std.specs.Prelude.{◌≡◌, ◌≤◌, leb};
 ghost use Rattle.quantity.specs.Unit.{newtons};
 ghost use Rattle.section.specs.Bounded.{Bounded};
@@ -14,7 +16,7 @@ use section::Section;
 use web_crushing::web_holds;
 
 // What the shear check comes to. A capacity is given only where 6.3.1v holds.
-#[derive(Drop)]
+#[derive(Clone, Copy)]
 pub enum ShearResult {
     // V is above what the web bears: 6.3.1v fails.
     AboveWebLimit,

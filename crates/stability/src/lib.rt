@@ -1,4 +1,6 @@
 // The stability factor φ of an axially loaded column, 4.2.4: straight between the points of the table.
+#![tactic(auto)]
+
 ghost use Rattle.std.specs.Prelude.{◌≡◌, ◌*◌, ◌≤◌, ◌<◌};
 ghost use Rattle.stability.specs.Steps.{interval, interpolated, stability};
 

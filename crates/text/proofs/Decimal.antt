@@ -106,7 +106,7 @@ decimal_is v = digits_are_decimal (decimal v) (decimal_not_empty v) (decimal_dig
 value_last : (a : ℕ) (s : List ℕ) (b : ℕ) → value_from a (s ++ (b ∷ [])) ≡ 10 * value_from a s + (b - 48)
 unfolding value_from
 value_last a [] b = refl
-value_last a (x ∷ s) b = value_last _ s b
+value_last a (x ∷ s) b = value_last (10 * a + (x - 48)) s b
 
 pub decimal_value : (v : ℕ) → value_of (decimal v) ≡ v
 unfolding value_of value_from

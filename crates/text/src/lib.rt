@@ -1,5 +1,7 @@
 // Text put into a lent buffer: bytes and fixed words. A byte past the buffer's end is counted and not stored, so a first pass over
 // a buffer of one byte learns a text's length.
+#![tactic(auto)]
+
 ghost use Rattle.std.specs.Prelude.{◌≡◌, ◌∷◌, [], min, take};
 ghost use Rattle.text.specs.Text.{word_text};
 ghost use Rattle.text.specs.Put.{Put, advance};
@@ -8,7 +10,7 @@ ghost use Rattle.text.specs.Put.{Put, advance};
 const LAST: usize = 18446744073709551615;
 
 // A word of at most eight bytes: the first n of b, all of them where n is above 8.
-#[derive(Drop)]
+#[derive(Clone, Copy)]
 pub struct Word {
     pub n: usize,
     pub b: [u8; 8],

@@ -1,4 +1,6 @@
 // A text or a file put into a lent buffer, or refused where it is too short: questions 12 and 13.
+#![tactic(auto)]
+
 ghost use Rattle.std.specs.Prelude.{◌≡◌, ◌≤◌, length};
 ghost use Rattle.line.specs.Line.{line_words, line_text};
 ghost use Rattle.question.specs.Reading.{refusal};
@@ -8,7 +10,7 @@ use line::put_line;
 use outcome::Outcome;
 use question::{Question, Refusal};
 
-#[derive(Drop)]
+#[derive(Clone, Copy)]
 pub enum TextAnswer {
     // the text, or the file, stands in the buffer's first bytes: how many
     Written(usize),

@@ -1,4 +1,6 @@
 // The totals of groups of bars that a caller lends, or question 7.
+#![tactic(auto)]
+
 ghost use Rattle.std.specs.Prelude.{◌≡◌, true, ◌≤◌, take};
 ghost use Rattle.lent_groups.specs.LentGroups.{group_holds, groups_hold};
 ghost use Rattle.totals.specs.Totals.{totals_given, totals_refused, bar_totals};
@@ -11,7 +13,7 @@ use question::{Question, number_of};
 // Question 0 says that the totals were given: number of bars, their area (tenths of mm²), n·d (mm) and n·d² (mm²) summed.
 // 7 says that the count is above 4 or above the list's length, or that a group is out of range.
 #[repr(C)]
-#[derive(Drop)]
+#[derive(Clone, Copy)]
 pub struct BarTotals {
     pub question: u32,
     pub member: u32,

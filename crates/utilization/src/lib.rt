@@ -1,4 +1,6 @@
 // How far each check of a member is used: its demand over its figure, or its figure over its limit.
+#![tactic(auto)]
+
 ghost use Rattle.std.specs.Prelude.{◌≡◌, ◌≤◌};
 ghost use Rattle.member.specs.Member.{beam_of, column_of, mesh_of};
 ghost use Rattle.member.specs.Accepted.{AcceptedBeam, AcceptedColumn, AcceptedMesh, AcceptedMember};
@@ -19,7 +21,7 @@ use question::{Refusal, Verdict};
 use ratio::{Utilization, no_ratio, over_figure, over_limit, together};
 use verdict::{Built, built_verdict};
 
-#[derive(Drop)]
+#[derive(Clone, Copy)]
 pub enum UtilizationAnswer {
     Given(Utilization),
     // the first question answered no

@@ -1,11 +1,13 @@
 // The numbers of a schedule: unsigned LEB128 (varint) in shortest form. Each byte has seven bits of the number, a septet, lowest first;
 // its top bit is set where another follows. Document 01 calls a septet a group.
+#![tactic(auto)]
+
 ghost use Rattle.std.specs.Prelude.{◌≡◌, ◌+◌, ◌*◌, ◌^◌, ◌<◌};
 ghost use Rattle.varint.specs.Varint.{number_at, septets_at, last_septet};
 
 use question::Question;
 
-#[derive(Drop)]
+#[derive(Clone, Copy)]
 pub enum Number {
     // The value, and the place after its last septet.
     Value(u32, usize),

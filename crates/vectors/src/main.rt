@@ -3,6 +3,8 @@
 // expected, both after their lengths in two bytes, low byte first. Prints how many there are, and how many are equal.
 // The last two vectors of the stored input are wrong on purpose, so that the expected output has two unequal: a comparison that
 // cannot fail does not print it.
+#![tactic(auto)]
+
 ghost use Rattle.std.specs.Prelude.{◌≡◌, ◌+◌, ◌≤◌, ◌<◌, length, get_or, take};
 ghost use Rattle.program_output.specs.ProgramOutput.{output_of};
 ghost use Rattle.vectors.specs.Vectors.{same_bytes, Holds, pair_at, word_at, words_of, written_of, answer_to, part_end, equal_at, one_if, row_tally, tally_of};
@@ -13,7 +15,7 @@ use question::number_of;
 use text_answer::TextAnswer;
 use writer::write_schedule;
 
-#[derive(Drop)]
+#[derive(Clone, Copy)]
 struct Tally {
     vectors: u64,
     equal: u64,

@@ -1,4 +1,6 @@
 // The questions of a whole member in slots, and those put to a single built member.
+#![tactic(auto)]
+
 ghost use Rattle.std.specs.Prelude.{◌≡◌, true};
 ghost use Rattle.field_table.specs.Fields.{beam_fields, column_fields, fields_of};
 ghost use Rattle.field_check.specs.FieldCheck.{fields_hold};
@@ -15,7 +17,7 @@ use reinforcement::{beam_bars, beam_ratio, column_bars};
 use service_moment::service_moment_fits;
 
 // A member that a caller builds.
-#[derive(Drop)]
+#[derive(Clone, Copy)]
 pub struct Built {
     pub mark: u32,
     pub kind: u32,

@@ -1,4 +1,6 @@
 // Crushing of the web of a beam.
+#![tactic(auto)]
+
 ghost use Rattle.std.specs.Prelude.{◌≡◌};
 ghost use Rattle.section.specs.Bounded.{Bounded};
 ghost use Rattle.web_crushing.specs.Steps.{scaled_width, web_holds};

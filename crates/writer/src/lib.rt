@@ -1,4 +1,6 @@
 // A held schedule is written: its bytes into a lent buffer.
+#![tactic(auto)]
+
 ghost use Rattle.std.specs.Prelude.{◌++◌, ◌*◌, ◌≤◌, length};
 ghost use Rattle.text.specs.Put.{Put};
 ghost use Rattle.varint.specs.Encoding.{bytes_of};

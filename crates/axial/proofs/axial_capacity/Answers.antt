@@ -1,0 +1,28 @@
+-- `axial::axial_capacity` meets its contract.
+use native.Mathlib.Omega.{arith}
+use Rattle.member.specs.Member.{column_of}
+use Rattle.stability.proofs.Bounds.{stability_most}
+use Rattle.axial.specs.Steps.{axial_capacity}
+use Rattle.axial.proofs.Tests.{slenderness_reflects}
+use Rattle.axial.proofs.Bounds.{product_most}
+use borrow.Author.Rules.{rules}
+use Rattle.axial.proofs.axial_capacity.Goals as goal
+
+pub stability_of-stability-requires : goal.stability_of-stability-requires
+stability_of-stability-requires c =
+    omega (arith, (slenderness_reflects (column_of c.args.x)).holds c.requires.2)
+
+pub overflow_mul-stability : goal.overflow_mul-stability
+overflow_mul-stability c =
+    omega (arith, stability_most c.in_millimetres.result c.in_millimetres-b.result)
+
+pub overflow_mul-stability-2 : goal.overflow_mul-stability-2
+overflow_mul-stability-2 c =
+    let given = c.requires.0 in
+    rw (c.squash_load-load.ensures, c.stability_of-stability.ensures, c.in_millimetres.ensures, c.in_millimetres-b.ensures)
+    (omega (arith, product_most _ _ _ given, given.accepted.b_most))
+
+pub returns : goal.returns
+unfolding axial_capacity
+returns c =
+    rw (c.of_newtons.ensures, c.div_down.ensures, c.squash_load-load.ensures, c.stability_of-stability.ensures, c.in_millimetres.ensures, c.in_millimetres-b.ensures)

@@ -1,0 +1,21 @@
+-- `deflection::deflection_holds` meets its contract.
+use native.Mathlib.Omega.{arith}
+use Prim.Native.Nat.{◌-◌}
+use Rattle.quantity.proofs.Product.{product_most}
+use Rattle.deflection.specs.Bounds.{deflection_most}
+use Rattle.deflection.specs.Steps.{deflection_holds}
+use Rattle.deflection.proofs.Bounds.{divisor_between}
+use borrow.Author.Rules.{rules}
+use Rattle.deflection.proofs.deflection_holds.Goals as goal
+
+pub overflow_mul-result : goal.overflow_mul-result
+overflow_mul-result c =
+    omega (
+      arith,
+      product_most c.args.figure c.span_divisor.result deflection_most 400
+          (c.requires.2, rw c.span_divisor.ensures (divisor_between c.args.x.l0.0 c.args.x.strict).1),
+    )
+
+pub returns : goal.returns
+unfolding deflection_holds
+returns c = rw (c.requires.1, c.span_divisor.ensures, c.in_millimetres.ensures)

@@ -1,0 +1,15 @@
+-- `field_check::column_section_holds` meets its contract.
+use lib.ListN.{take}
+use Rattle.field_table.specs.Fields.{column_fields}
+use Rattle.field_check.proofs.Joined.{joined_hold}
+use borrow.Author.Rules.{rules}
+use Rattle.field_check.proofs.column_section_holds.Goals as goal
+
+pub returns : goal.returns
+returns c =
+    rw (c.and.ensures, c.slot_holds-4.ensures, c.column_field-5.ensures)
+    (rw (c.and-ok-3.ensures, c.slot_holds-3.ensures, c.column_field-4.ensures)
+    (rw (c.and-ok-2.ensures, c.slot_holds-2.ensures, c.column_field-3.ensures)
+    (rw (c.and-ok.ensures, c.slot_holds.ensures, c.column_field-2.ensures)
+    (rw (c.slot_holds-ok.ensures, c.column_field.ensures)
+    (joined_hold (take 5 column_fields) 0 _)))))

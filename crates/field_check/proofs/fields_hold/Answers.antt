@@ -1,0 +1,16 @@
+-- `field_check::fields_hold` meets its contract.
+use Rattle.field_table.specs.Fields.{fields_of}
+use borrow.Author.Rules.{rules}
+use Rattle.field_check.proofs.fields_hold.Goals as goal
+
+pub returns-in-Beam : goal.returns-in-Beam
+unfolding fields_of
+returns-in-Beam c = rw c.in-Beam.is c.beam_holds.ensures
+
+pub returns-in-Column : goal.returns-in-Column
+unfolding fields_of
+returns-in-Column c = rw c.in-Column.is c.column_holds.ensures
+
+pub returns-in-Mesh : goal.returns-in-Mesh
+unfolding fields_of
+returns-in-Mesh c = rw c.in-Mesh.is c.mesh_holds.ensures

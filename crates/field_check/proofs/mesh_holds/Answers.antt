@@ -1,0 +1,20 @@
+-- `field_check::mesh_holds` meets its contract.
+use Rattle.field_table.specs.Fields.{mesh_fields}
+use Rattle.field_check.proofs.Joined.{joined_hold}
+use borrow.Author.Rules.{rules}
+use Rattle.field_check.proofs.mesh_holds.Goals as goal
+
+pub returns : goal.returns
+returns c =
+    rw (c.and.ensures, c.slot_holds-10.ensures, c.mesh_field-11.ensures)
+    (rw (c.and-ok-9.ensures, c.slot_holds-9.ensures, c.mesh_field-10.ensures)
+    (rw (c.and-ok-8.ensures, c.slot_holds-8.ensures, c.mesh_field-9.ensures)
+    (rw (c.and-ok-7.ensures, c.slot_holds-7.ensures, c.mesh_field-8.ensures)
+    (rw (c.and-ok-6.ensures, c.slot_holds-6.ensures, c.mesh_field-7.ensures)
+    (rw (c.and-ok-5.ensures, c.slot_holds-5.ensures, c.mesh_field-6.ensures)
+    (rw (c.and-ok-4.ensures, c.slot_holds-4.ensures, c.mesh_field-5.ensures)
+    (rw (c.and-ok-3.ensures, c.slot_holds-3.ensures, c.mesh_field-4.ensures)
+    (rw (c.and-ok-2.ensures, c.slot_holds-2.ensures, c.mesh_field-3.ensures)
+    (rw (c.and-ok.ensures, c.slot_holds.ensures, c.mesh_field-2.ensures)
+    (rw (c.slot_holds-ok.ensures, c.mesh_field.ensures)
+    (joined_hold mesh_fields 0 _)))))))))))

@@ -1,0 +1,6 @@
+-- `field_layout::force_at` meets its contract.
+use borrow.Author.Rules.{rules}
+use Rattle.field_layout.proofs.force_at.Goals as goal
+
+pub returns : goal.returns
+returns c = rw (c.of_newtons.ensures, c.widen.ensures)

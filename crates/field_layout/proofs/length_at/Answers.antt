@@ -1,0 +1,6 @@
+-- `field_layout::length_at` meets its contract.
+use borrow.Author.Rules.{rules}
+use Rattle.field_layout.proofs.length_at.Goals as goal
+
+pub returns : goal.returns
+returns c = rw (c.of_millimetres.ensures, c.widen.ensures)

@@ -1,0 +1,28 @@
+-- `field_table::group_field` meets its contract.
+use Prim.Native.Nat.{zero-le}
+use Rattle.field_table.proofs.Tables.{none_from, last_place}
+use Rattle.field_table.proofs.group_field.Goals as goal
+
+pub returns-in_default : goal.returns-in_default
+returns-in_default c = rw (last_place 7 _ (none_from _ 0 7 _ zero-le c.in_default.in_default-own.rest) c.requires)
+
+pub returns-in-0 : goal.returns-in-0
+returns-in-0 c = rw c.in-0.is
+
+pub returns-in-1 : goal.returns-in-1
+returns-in-1 c = rw c.in-1.is
+
+pub returns-in-2 : goal.returns-in-2
+returns-in-2 c = rw c.in-2.is
+
+pub returns-in-3 : goal.returns-in-3
+returns-in-3 c = rw c.in-3.is
+
+pub returns-in-4 : goal.returns-in-4
+returns-in-4 c = rw c.in-4.is
+
+pub returns-in-5 : goal.returns-in-5
+returns-in-5 c = rw c.in-5.is
+
+pub returns-in-6 : goal.returns-in-6
+returns-in-6 c = rw c.in-6.is
