@@ -48,10 +48,10 @@ pub record Short (o : Outcome) : Type 0 where
 
 module _ {x : Section} (a : Bounded x) where
   moment_short : bending_capacity x < 10 ^ 9
-  moment_short = omega (arith, bending.capacity-most a)
+  moment_short = omega (arith, bending.capacity_most a)
 
   shear_short : shear_capacity x < 10 ^ 9
-  shear_short = omega (arith, shear.capacity-most a)
+  shear_short = omega (arith, shear.capacity_most a)
 
   width_short : stress_holds x ≡ true → G x ≤ 50 * S x → crack_width x < 10 ^ 9
   width_short e g = omega (arith, width_most_lem x a e g)
@@ -78,7 +78,7 @@ module _ {x : Column} {concrete : Concrete} {steel : Steel} (given : Given x con
 
   short_with : {o : Outcome} → columns.WayOut x concrete steel o → Short o
   short_with (columns.no_figure_lem _) = record { first = tt; second = tt; third = tt; fourth = tt }
-  short_with (columns.to-axial _) = record { first = axial_short; second = tt; third = tt; fourth = tt }
+  short_with (columns.to_axial _) = record { first = axial_short; second = tt; third = tt; fourth = tt }
 
 pub column_short : (x : Column) → AcceptedColumn x → Short (column_outcome x (concrete_of x.concrete) (steel_of x.steel))
 column_short x a = short_with (column_given x a) (columns.way_out _ _ _ (column_given x a))
@@ -93,8 +93,8 @@ module _ {x : Mesh} (a : AcceptedMesh x) where
   lap_short = omega (arith, lap_most x a)
 
   lengths_short : {o : Outcome} → meshes.WayOut x o → Short o
-  lengths_short (meshes.to-anchorage _) = record { first = anchorage_short; second = tt; third = tt; fourth = tt }
-  lengths_short (meshes.to-lap _) = record { first = anchorage_short; second = lap_short; third = tt; fourth = tt }
+  lengths_short (meshes.to_anchorage _) = record { first = anchorage_short; second = tt; third = tt; fourth = tt }
+  lengths_short (meshes.to_lap _) = record { first = anchorage_short; second = lap_short; third = tt; fourth = tt }
 
 pub member_short : (m : Member) → AcceptedMember m → Short (outcome_of m)
 member_short (beam mark x) a = beam_short x a.1

@@ -65,7 +65,7 @@ AxialFigure x concrete steel o = Is (axial_capacity x concrete steel) o.first
 
 axial_stands : {x : Column} {concrete : Concrete} {steel : Steel} {o : Outcome} → columns.WayOut x concrete steel o → AxialFigure x concrete steel o
 axial_stands (columns.no_figure_lem _) = tt
-axial_stands (columns.to-axial _) = refl
+axial_stands (columns.to_axial _) = refl
 
 pub axial_figure : (x : Column) (concrete : Concrete) (steel : Steel) → Given x concrete steel → AxialFigure x concrete steel (column_outcome x concrete steel)
 axial_figure x concrete steel given = axial_stands (columns.way_out x concrete steel given)
@@ -75,8 +75,8 @@ pub record MeshFigures (x : Mesh) (o : Outcome) : Type 0 where
   pub lap : Is (lap_length x) o.second
 
 lengths_stand : {x : Mesh} {o : Outcome} → meshes.WayOut x o → MeshFigures x o
-lengths_stand (meshes.to-anchorage _) = record { anchorage = refl; lap = tt }
-lengths_stand (meshes.to-lap _) = record { anchorage = refl; lap = refl }
+lengths_stand (meshes.to_anchorage _) = record { anchorage = refl; lap = tt }
+lengths_stand (meshes.to_lap _) = record { anchorage = refl; lap = refl }
 
 pub mesh_figures : (x : Mesh) → MeshFigures x (mesh_outcome x)
 mesh_figures x = lengths_stand (meshes.way_out x)

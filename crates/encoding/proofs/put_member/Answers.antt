@@ -1,0 +1,15 @@
+-- `encoding::put_member` meets its contract.
+use borrow.Author.Rules.{rules}
+use Rattle.text.proofs.Put.{put_then}
+use Rattle.encoding.specs.ScheduleBytes.{bytes_of_all}
+use Rattle.encoding.proofs.Rows.{member_numbers_lem}
+use Rattle.encoding.proofs.put_member.Goals as goal
+
+pub put_fields-requires : goal.put_fields-requires
+put_fields-requires c = rw c.kind_of.ensures c.requires.1
+
+pub returns : goal.returns
+unfolding bytes_of_all
+returns c =
+    rw (← member_numbers_lem _ _ _ c.requires.0, ← c.kind_of.ensures)
+    (put_then c.put_number-p.ensures (put_then c.put_number-q.ensures c.put_fields.ensures))

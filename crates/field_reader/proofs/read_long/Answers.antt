@@ -1,0 +1,105 @@
+-- `field_reader::read_long` meets its contract: the number from the third group is the number from here, the weight is that of the groups
+-- passed, and the value so far is below it.
+use mathlib.Core.Path.{◌≡◌, refl, ◌∙◌}
+use Prim.Native.Nat.{suc, ◌+◌, ◌-◌, ◌*◌, ◌^◌, ◌≤◌, ◌<◌}
+use native.Mathlib.Omega.{arith}
+use lib.ListN.{get_or}
+use borrow.Author.Rules.{rules}
+use Rattle.varint.specs.declared.Number.TheVariants.{Value}
+use Rattle.varint.specs.Varint.{septets_at}
+use Rattle.varint.proofs.Septets.{below}
+use Rattle.question.specs.Reading.{Got}
+use Rattle.field_validator.specs.Placed.{of_number}
+use Rattle.field_reader.proofs.Numbers.{there, ends, another, turn, weight_at, weight_after}
+use Rattle.field_reader.proofs.read_long.Goals as goal
+use Rattle.field_reader.proofs.read_long.Goals.{After-loop-b, At-loop-b, In-loop-b}
+
+-- the number is read from here on
+read-on : (c : At-loop-b) →
+    Got (of_number (septets_at (suc (c.args.at + 2 - c.loop-b.p)) c.args.src.now c.loop-b.p c.loop-b.w c.loop-b.v))
+read-on c = rw c.loop-b.invariant.6 at c.requires.1
+
+-- the weight in a turn
+top : (c : At-loop-b) → c.loop-b.w ≤ 128 ^ 4
+top c = rw c.loop-b.invariant.2 (weight_at _ _ c.loop-b.invariant.0)
+
+-- the value after a turn is below the next weight
+sum : (c : In-loop-b) → let l = c.loop-b in l.v + (l.b - 128) * l.w < l.w * 128
+sum c =
+    let l = c.loop-b in
+    below (l.b - 128) l.w l.v (omega (arith, l.invariant.4)) l.invariant.3
+
+-- a group that is the last ends the number
+ended : (c : After-loop-b) →
+    let l = c.loop-b in
+    (l.v + l.b * l.w < 2 ^ 32)
+    × (septets_at (suc (c.args.at + 2 - l.p)) c.args.src.now l.p l.w l.v ≡ Value (l.v + l.b * l.w) (l.p + 1))
+ended c =
+    let l = c.loop-b in
+    let on : Got (of_number (septets_at (suc (c.args.at + 2 - l.p)) c.args.src.now l.p l.w l.v)) = rw l.invariant.6 at c.requires.1 in
+    ends _ _ _ _ _ on l.b l.invariant.5 c.loop-b-test.false
+
+pub bounds-src-p : goal.bounds-src-p
+bounds-src-p c = there _ 2 _ _ _ c.requires.1
+
+pub loop-b-init : goal.loop-b-init
+loop-b-init c =
+    let z : c.args.at - c.args.at + 2 ≡ 2 = omega arith in
+    let e : c.args.at + 2 - c.args.at ≡ 2 = omega arith in (
+      omega arith,
+      omega arith,
+      rw z refl,
+      c.requires.0,
+      omega (arith, c.widen-b.ensures, c.shared_slice_known-2-1.given c.args.at),
+      c.widen-b.ensures,
+      rw e refl,
+    )
+
+pub overflow_mul-v : goal.overflow_mul-v
+overflow_mul-v c = omega (arith, sum (goal.at.overflow_mul-v c).In-loop-b, top (goal.at.overflow_mul-v c).At-loop-b)
+
+pub overflow_add-v : goal.overflow_add-v
+overflow_add-v c = omega (arith, sum (goal.at.overflow_add-v c).In-loop-b, top (goal.at.overflow_add-v c).At-loop-b)
+
+pub overflow_mul-w : goal.overflow_mul-w
+overflow_mul-w c = omega (arith, top (goal.at.overflow_mul-w c).At-loop-b)
+
+pub overflow_add-p : goal.overflow_add-p
+overflow_add-p c = omega (arith, there _ _ _ _ _ (read-on (goal.at.overflow_add-p c).At-loop-b), c.well_formed.0.0)
+
+pub bounds-src-p-in-loop-b : goal.bounds-src-p-in-loop-b
+bounds-src-p-in-loop-b c =
+    let l = c.loop-b in
+    there _ _ _ _ _ (rw (turn _ _ _ _ _ _ l.invariant.5 c.loop-b-test.true (read-on (goal.at.bounds-src-p-in-loop-b c).At-loop-b)) at (read-on (goal.at.bounds-src-p-in-loop-b c).At-loop-b))
+
+pub loop-b-smaller : goal.loop-b-smaller
+loop-b-smaller c = omega (arith, c.loop-b.invariant.0)
+
+pub loop-b-preserved : goal.loop-b-preserved
+loop-b-preserved c =
+    let l = c.loop-b in
+    let on = read-on (goal.at.loop-b-preserved c).At-loop-b in (
+      another _ _ _ _ _ _ l.invariant.5 c.loop-b-test.true on,
+      omega (arith, l.invariant.1),
+      rw l.invariant.2 (weight_after _ _ l.invariant.1),
+      sum (goal.at.loop-b-preserved c).In-loop-b,
+      omega (arith, c.widen-b-in-loop-b.ensures, c.shared_slice_known-in-loop-b-1.given (l.p + 1)),
+      c.widen-b-in-loop-b.ensures,
+      l.invariant.6 ∙ turn _ _ _ _ _ _ l.invariant.5 c.loop-b-test.true on,
+    )
+
+pub overflow_mul-b : goal.overflow_mul-b
+overflow_mul-b c = omega (arith, (ended (goal.at.overflow_mul-b c).After-loop-b).0)
+
+pub overflow_add-v-2 : goal.overflow_add-v-2
+overflow_add-v-2 c = omega (arith, (ended (goal.at.overflow_add-v-2 c).After-loop-b).0)
+
+pub overflow_add-p-2 : goal.overflow_add-p-2
+overflow_add-p-2 c = omega (arith, there _ _ _ _ _ (read-on (goal.at.overflow_add-p-2 c).At-loop-b), c.well_formed.0.0)
+
+pub number_read-requires : goal.number_read-requires
+number_read-requires c = (ended (goal.at.number_read-requires c).After-loop-b).0
+
+pub returns : goal.returns
+returns c =
+    c.loop-b.invariant.6 ∙ (ended (goal.at.returns c).After-loop-b).1 ∙ rw c.number_read.ensures
