@@ -137,7 +137,7 @@ module _ (words : List ℕ) (count : ℕ) (e : validated.Accepted count ≡ sche
   ready = ready_of words (held_members words) count refl e
 
   pub validated_ready : (count ≤ 500) × (count * record_words ≤ length words) × AllInRange (records_from count words 0)
-  validated_ready = let g = ready.goes_by in (g.few, g.inside, g.in-range)
+  validated_ready = let g = ready.goes_by in (g.few, g.inside, g.in_range_lem)
 
   pub validated_yes : {d d' : List ℕ} {a : TextAnswer} → Printed file_too_long (bytes_of count ++ records_bytes (records_from count words 0)) d d' a → ScheduleWritten words d d' a
   validated_yes {d} {d'} {a} p = written words d d' a ready.ms ready.held (rw ready.goes_by.file at p)

@@ -1,0 +1,11 @@
+-- `answer_record::with_governing` meets its contract.
+use lib.Ieee.{of_bits}
+use borrow.Author.Rules.{rules}
+use Rattle.answer_record.proofs.with_governing.Goals as goal
+
+pub returns-in-Largest : goal.returns-in-Largest
+returns-in-Largest c = rw c.in-Largest.is
+
+pub returns-in-None : goal.returns-in-None
+unfolding of_bits
+returns-in-None c = rw c.in-None.is
