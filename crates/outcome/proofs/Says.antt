@@ -1,6 +1,6 @@
 -- What the check of an outcome says of its member: OK that every inequality holds, any other check that it may be named.
 use mathlib.Core.Path.{◌≡◌, sym, ap, ◌∙◌}
-use mathlib.Core.Bool.{Bool, true, false, false≢true}
+use mathlib.Core.Bool.{Bool, false, false≢true}
 use lib.Dec.{eqb}
 use lib.ListN.{length}
 use Rattle.outcome.specs.declared.Check.{Check}

@@ -1,6 +1,5 @@
 -- `anchorage::anchorage_length` meets its contract.
 use Rattle.anchorage.specs.Steps.{anchorage_length}
-use borrow.Author.Rules.{rules}
 use Rattle.anchorage.proofs.anchorage_length.Goals as goal
 
 pub returns : goal.returns

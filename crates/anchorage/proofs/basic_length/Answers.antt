@@ -5,7 +5,6 @@ use native.Mathlib.Omega.{arith}
 use Rattle.member.specs.Member.{mesh_of}
 use Rattle.anchorage.specs.Steps.{basic_length}
 use Rattle.anchorage.proofs.Bounds.{Plain, plain, basic_most_lem}
-use borrow.Author.Rules.{rules}
 use Rattle.anchorage.proofs.basic_length.Goals as goal
 use Rattle.anchorage.proofs.basic_length.Goals.{After-in_millimetres, After-seismic_factor}
 

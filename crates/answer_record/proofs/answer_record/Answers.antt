@@ -1,5 +1,4 @@
 -- `answer_record::answer_record` meets its contract.
-use borrow.Author.Rules.{rules}
 use Rattle.answer_record.proofs.answer_record.Goals as goal
 
 pub returns-in-Written : goal.returns-in-Written

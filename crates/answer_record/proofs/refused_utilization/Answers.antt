@@ -1,6 +1,5 @@
 -- `answer_record::refused_utilization` meets its contract.
 use lib.Ieee.{of_bits}
-use borrow.Author.Rules.{rules}
 use Rattle.answer_record.proofs.refused_utilization.Goals as goal
 
 pub returns : goal.returns

@@ -1,5 +1,4 @@
 -- `answer_record::utilization_record` meets its contract.
-use borrow.Author.Rules.{rules}
 use Rattle.answer_record.proofs.utilization_record.Goals as goal
 
 pub returns-in-Given : goal.returns-in-Given

@@ -1,6 +1,5 @@
 -- `answer_record::with_governing` meets its contract.
 use lib.Ieee.{of_bits}
-use borrow.Author.Rules.{rules}
 use Rattle.answer_record.proofs.with_governing.Goals as goal
 
 pub returns-in-Largest : goal.returns-in-Largest

@@ -5,7 +5,6 @@ use Rattle.stability.proofs.Bounds.{stability_most}
 use Rattle.axial.specs.Steps.{axial_capacity}
 use Rattle.axial.proofs.Tests.{slenderness_reflects}
 use Rattle.axial.proofs.Bounds.{product_most}
-use borrow.Author.Rules.{rules}
 use Rattle.axial.proofs.axial_capacity.Goals as goal
 
 pub stability_of-stability-requires : goal.stability_of-stability-requires

@@ -1,6 +1,5 @@
 -- `axial::slenderness_fits` meets its contract.
 use Rattle.axial.specs.Steps.{slenderness_fits}
-use borrow.Author.Rules.{rules}
 use Rattle.axial.proofs.slenderness_fits.Goals as goal
 
 pub returns : goal.returns

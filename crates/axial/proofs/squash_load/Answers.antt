@@ -4,7 +4,6 @@ use Rattle.member.specs.Member.{column_of}
 use Rattle.axial.specs.Steps.{squash_load}
 use Rattle.axial.proofs.Tests.{steel_reflects}
 use Rattle.axial.proofs.Bounds.{gross_most, concrete_load_most, steel_load_most}
-use borrow.Author.Rules.{rules}
 use Rattle.axial.proofs.squash_load.Goals as goal
 
 pub concrete_area-requires : goal.concrete_area-requires

@@ -3,7 +3,6 @@ use native.Mathlib.Omega.{arith}
 use Rattle.member.specs.Member.{column_of}
 use Rattle.axial.specs.Steps.{steel_fits}
 use Rattle.axial.proofs.Bounds.{steel_most}
-use borrow.Author.Rules.{rules}
 use Rattle.axial.proofs.steel_fits.Goals as goal
 
 pub overflow_mul-result : goal.overflow_mul-result

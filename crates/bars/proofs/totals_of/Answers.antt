@@ -1,10 +1,6 @@
 -- `bars::totals_of` meets its contract.
 use Rattle.bars.proofs.Groups.{totals_none, totals_more, turn_requires, all_summed}
-use Prim.Native.Nat.{◌-◌, ◌≤◌, min}
-use mathlib.Core.Path.{◌≡◌}
-use lib.ListN.{take}
 use borrow.Author.Rules.{rules}
-use Rattle.bars.specs.Sums.{TotalsOf}
 use Rattle.bars.proofs.totals_of.Goals as goal
 
 pub loop-i-init : goal.loop-i-init

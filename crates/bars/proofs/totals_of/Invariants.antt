@@ -1,8 +1,6 @@
-use Rattle.bars.proofs.Groups.{totals_none, totals_more, turn_requires, all_summed}
 use Prim.Native.Nat.{◌-◌, ◌≤◌, min}
 use mathlib.Core.Path.{◌≡◌}
 use lib.ListN.{take}
-use borrow.Author.Rules.{rules}
 use Rattle.bars.specs.Sums.{TotalsOf}
 use Rattle.bars.proofs.totals_of.Given as goal
 

@@ -1,7 +1,6 @@
 -- `bars::with_group` meets its contract.
 use native.Mathlib.Omega.{arith}
 use Rattle.bars.proofs.Groups.{area_by_bars, diameters_by_bars, squares_by_diameters}
-use borrow.Author.Rules.{rules}
 use Rattle.bars.proofs.with_group.Goals as goal
 
 pub overflow_add-result-2 : goal.overflow_add-result-2

@@ -2,7 +2,6 @@
 use mathlib.Core.Path.{◌∙◌, ap}
 use Rattle.section.proofs.Bounded.{bounded}
 use Rattle.beam.specs.Checks.{section_outcome, beam_outcome}
-use borrow.Author.Rules.{rules}
 use Rattle.beam.proofs.check_beam.Goals as goal
 
 pub check_section-requires : goal.check_section-requires

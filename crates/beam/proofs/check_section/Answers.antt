@@ -2,7 +2,6 @@
 use Rattle.bending.proofs.Tests.{least_steel_reflects}
 use mathlib.Core.Path.{sym, ◌∙◌}
 use Rattle.beam.specs.Checks.{section_outcome}
-use borrow.Author.Rules.{rules}
 use Rattle.beam.proofs.check_section.Goals as goal
 
 pub least_steel-requires : goal.least_steel-requires

@@ -1,7 +1,6 @@
 -- `beam::from_depth` meets its contract.
 use mathlib.Core.Path.{sym, ◌∙◌}
 use Rattle.beam.specs.Checks.{from_depth}
-use borrow.Author.Rules.{rules}
 use Rattle.beam.proofs.from_depth.Goals as goal
 
 pub compression_depth-requires : goal.compression_depth-requires

@@ -1,7 +1,6 @@
 -- `beam::from_least_links` meets its contract.
 use mathlib.Core.Path.{sym, ◌∙◌}
 use Rattle.beam.specs.Checks.{from_least_links}
-use borrow.Author.Rules.{rules}
 use Rattle.beam.proofs.from_least_links.Goals as goal
 
 pub least_links-requires : goal.least_links-requires

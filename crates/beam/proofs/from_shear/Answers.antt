@@ -1,6 +1,5 @@
 -- `beam::from_shear` meets its contract.
 use mathlib.Core.Path.{sym, ◌∙◌}
-use borrow.Author.Rules.{rules}
 use Rattle.beam.specs.Checks.{from_shear}
 use Rattle.beam.proofs.from_shear.Goals as goal
 

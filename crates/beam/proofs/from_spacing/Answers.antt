@@ -1,7 +1,6 @@
 -- `beam::from_spacing` meets its contract.
 use mathlib.Core.Path.{sym, ◌∙◌}
 use Rattle.beam.specs.Checks.{from_spacing}
-use borrow.Author.Rules.{rules}
 use Rattle.beam.proofs.from_spacing.Goals as goal
 
 pub link_spacing-requires : goal.link_spacing-requires

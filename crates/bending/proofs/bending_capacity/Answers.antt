@@ -1,6 +1,5 @@
 -- `bending::bending_capacity` meets its contract.
 use mathlib.Core.Path.{sym, ◌∙◌}
-use borrow.Author.Rules.{rules}
 use Rattle.bending.specs.Steps.{bending_capacity}
 use Rattle.bending.proofs.bending_capacity.Goals as goal
 

@@ -1,6 +1,5 @@
 -- `bending::block_force_per_mm` meets its contract.
 use native.Mathlib.Omega.{arith}
-use borrow.Author.Rules.{rules}
 use Rattle.bending.proofs.Bounds.{sizes}
 use Rattle.bending.proofs.block_force_per_mm.Goals as goal
 

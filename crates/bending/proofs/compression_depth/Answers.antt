@@ -1,6 +1,5 @@
 -- `bending::compression_depth` meets its contract.
 use native.Mathlib.Omega.{arith}
-use borrow.Author.Rules.{rules}
 use Rattle.bending.specs.Steps.{compression_depth}
 use Rattle.bending.proofs.Bounds.{sizes}
 use Rattle.bending.proofs.compression_depth.Goals as goal

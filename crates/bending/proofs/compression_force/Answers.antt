@@ -1,6 +1,5 @@
 -- `bending::compression_force` meets its contract.
 use native.Mathlib.Omega.{arith}
-use borrow.Author.Rules.{rules}
 use Rattle.bending.proofs.Bounds.{sizes}
 use Rattle.bending.proofs.compression_force.Goals as goal
 

@@ -1,7 +1,6 @@
 -- `bending::compression_yields` meets its contract.
 use mathlib.Core.Path.{sym}
 use native.Mathlib.Omega.{arith}
-use borrow.Author.Rules.{rules}
 use Rattle.bending.proofs.Bounds.{sizes}
 use Rattle.bending.proofs.Tests.{yields_compared}
 use Rattle.bending.proofs.compression_yields.Goals as goal

@@ -1,6 +1,5 @@
 -- `bending::couple_capacity` meets its contract.
 use native.Mathlib.Omega.{arith}
-use borrow.Author.Rules.{rules}
 use Rattle.bending.specs.Steps.{couple_capacity}
 use Rattle.bending.proofs.Bounds.{sizes}
 use Rattle.bending.proofs.couple_capacity.Goals as goal

@@ -1,6 +1,5 @@
 -- `bending::gross_area` meets its contract.
 use native.Mathlib.Omega.{arith}
-use borrow.Author.Rules.{rules}
 use Rattle.bending.proofs.gross_area.Goals as goal
 
 pub overflow_mul-result : goal.overflow_mul-result

@@ -1,6 +1,5 @@
 -- `bending::least_steel` meets its contract.
 use native.Mathlib.Omega.{arith}
-use borrow.Author.Rules.{rules}
 use Rattle.bending.proofs.Bounds.{sizes}
 use Rattle.bending.proofs.Tests.{least_steel_second, least_steel_short}
 use Rattle.bending.proofs.least_steel.Goals as goal

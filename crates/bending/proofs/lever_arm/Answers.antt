@@ -1,5 +1,4 @@
 -- `bending::lever_arm` meets its contract.
-use borrow.Author.Rules.{rules}
 use Rattle.bending.proofs.lever_arm.Goals as goal
 
 pub returns : goal.returns

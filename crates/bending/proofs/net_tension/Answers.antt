@@ -1,6 +1,5 @@
 -- `bending::net_tension` meets its contract.
 use native.Mathlib.Omega.{arith}
-use borrow.Author.Rules.{rules}
 use Rattle.bending.proofs.Tests.{yields_tension}
 use Rattle.bending.proofs.net_tension.Goals as goal
 

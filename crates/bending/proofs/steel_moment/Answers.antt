@@ -1,6 +1,5 @@
 -- `bending::steel_moment` meets its contract.
 use native.Mathlib.Omega.{arith}
-use borrow.Author.Rules.{rules}
 use Rattle.bending.proofs.Capacity.{steel_most}
 use Rattle.bending.proofs.steel_moment.Goals as goal
 

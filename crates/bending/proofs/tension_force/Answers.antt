@@ -1,6 +1,5 @@
 -- `bending::tension_force` meets its contract.
 use native.Mathlib.Omega.{arith}
-use borrow.Author.Rules.{rules}
 use Rattle.bending.proofs.Bounds.{sizes}
 use Rattle.bending.proofs.tension_force.Goals as goal
 

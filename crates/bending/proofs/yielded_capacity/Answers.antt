@@ -1,7 +1,6 @@
 -- `bending::yielded_capacity` meets its contract: t²/(2k) rounded up is taken off before the one rounding down.
 use mathlib.Core.Path.{sym}
 use native.Mathlib.Omega.{arith}
-use borrow.Author.Rules.{rules}
 use Rattle.quantity.proofs.Product.{product_most}
 use Rattle.bending.proofs.Bounds.{sizes}
 use Rattle.bending.proofs.Capacity.{rounded_within, yielded_value}

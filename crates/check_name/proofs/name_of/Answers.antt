@@ -2,7 +2,6 @@
 use Prim.Native.Nat.{ℕ}
 use mathlib.Core.Path.{◌≡◌}
 use mathlib.Core.List.{List}
-use borrow.Author.Rules.{rules}
 use Rattle.outcome.specs.declared.Check.{Check}
 use Rattle.outcome.specs.Outcome.{name_of}
 use Rattle.check_name.proofs.name_of.Goals as goal

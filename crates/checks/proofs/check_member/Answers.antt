@@ -1,6 +1,5 @@
 -- `checks::check_member` meets its contract.
 use Rattle.checks.proofs.Safe.{as_beam, as_column, as_mesh, beam_outcome_lem, column_outcome_lem, mesh_outcome_lem}
-use borrow.Author.Rules.{rules}
 use Rattle.checks.proofs.check_member.Goals as goal
 
 pub check_beam-requires : goal.check_beam-requires

@@ -1,6 +1,5 @@
 -- `code_tables::area_of` meets its contract: a listed diameter has the area of its bar, and no other has an area.
 use mathlib.Core.Path.{sym, ◌∙◌}
-use borrow.Author.Rules.{rules}
 use Rattle.code_tables.proofs.Bars.{unlisted_area}
 use Rattle.code_tables.proofs.area_of.Goals as goal
 

@@ -1,6 +1,5 @@
 -- `code_tables::multiple_of` meets its contract.
 use Rattle.code_tables.proofs.Mesh.{multiple_found}
-use borrow.Author.Rules.{rules}
 use Rattle.code_tables.proofs.multiple_of.Goals as goal
 
 pub returns : goal.returns

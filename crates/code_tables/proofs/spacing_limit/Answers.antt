@@ -1,5 +1,4 @@
 -- `code_tables::spacing_limit` meets its contract.
-use borrow.Author.Rules.{rules}
 use Rattle.code_tables.specs.Spacing.{spacing_limit}
 use Rattle.code_tables.proofs.spacing_limit.Goals as goal
 

@@ -2,7 +2,6 @@
 use mathlib.Core.Path.{◌∙◌}
 use borrow.Author.Tests.{le-leb, lt-leb}
 use Rattle.column.specs.Checks.{axial_outcome}
-use borrow.Author.Rules.{rules}
 use Rattle.column.proofs.check_axial.Goals as goal
 
 pub returns-then-in_newtons-capacity : goal.returns-then-in_newtons-capacity

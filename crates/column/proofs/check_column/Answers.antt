@@ -1,6 +1,5 @@
 -- `column::check_column` meets its contract.
 use Rattle.material.proofs.Materials.{usable_concrete, usable_steel}
-use borrow.Author.Rules.{rules}
 use Rattle.column.proofs.check_column.Goals as goal
 
 pub check_with-requires : goal.check_with-requires

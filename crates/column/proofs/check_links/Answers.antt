@@ -1,6 +1,5 @@
 -- `column::check_links` meets its contract.
 use Rattle.column.specs.Checks.{links_outcome}
-use borrow.Author.Rules.{rules}
 use Rattle.column.proofs.check_links.Goals as goal
 
 pub returns-then-links_fit : goal.returns-then-links_fit

@@ -1,7 +1,6 @@
 -- `column::check_slenderness` meets its contract.
 use mathlib.Core.Path.{sym, ◌∙◌}
 use Rattle.column.specs.Checks.{slenderness_outcome}
-use borrow.Author.Rules.{rules}
 use Rattle.column.proofs.check_slenderness.Goals as goal
 
 pub check_axial-requires : goal.check_axial-requires

@@ -1,7 +1,6 @@
 -- `column::check_with` meets its contract.
 use mathlib.Core.Path.{sym, ◌∙◌}
 use Rattle.column.specs.Checks.{column_outcome}
-use borrow.Author.Rules.{rules}
 use Rattle.column.proofs.check_with.Goals as goal
 
 pub check_links-requires : goal.check_links-requires

@@ -3,7 +3,6 @@ use native.Mathlib.Omega.{arith}
 use Rattle.member.specs.Member.{column_of}
 use Rattle.bars.proofs.Groups.{smallest_most}
 use Rattle.column.specs.Checks.{links_fit}
-use borrow.Author.Rules.{rules}
 use Rattle.column.proofs.links_fit.Goals as goal
 
 pub overflow_mul-spaced : goal.overflow_mul-spaced

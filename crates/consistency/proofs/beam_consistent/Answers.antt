@@ -1,6 +1,5 @@
 -- `consistency::beam_consistent` meets its contract.
 use Rattle.consistency.specs.Consistency.{beam_consistent}
-use borrow.Author.Rules.{rules}
 use Rattle.consistency.proofs.beam_consistent.Goals as goal
 
 pub returns : goal.returns

@@ -1,6 +1,5 @@
 -- `consistency::column_consistent` meets its contract.
 use Rattle.consistency.specs.Consistency.{column_consistent}
-use borrow.Author.Rules.{rules}
 use Rattle.consistency.proofs.column_consistent.Goals as goal
 
 pub returns : goal.returns

@@ -1,7 +1,6 @@
 -- `consistency::compression_fits` meets its contract.
 use mathlib.Core.Path.{sym, ◌∙◌}
 use Rattle.consistency.specs.Consistency.{compression_fits}
-use borrow.Author.Rules.{rules}
 use Rattle.consistency.proofs.compression_fits.Goals as goal
 
 pub returns-then-no_groups : goal.returns-then-no_groups

@@ -1,7 +1,6 @@
 -- `consistency::depth_fits` meets its contract.
 use native.Mathlib.Omega.{arith}
 use Rattle.consistency.specs.Consistency.{depth_fits}
-use borrow.Author.Rules.{rules}
 use Rattle.consistency.proofs.depth_fits.Goals as goal
 
 pub overflow_mul-slender : goal.overflow_mul-slender

@@ -2,7 +2,6 @@
 use native.Mathlib.Omega.{arith}
 use borrow.Author.Tests.{eq-eqb, ne_eqb, le-leb, lt-leb}
 use Rattle.consistency.specs.Consistency.{flange_fits}
-use borrow.Author.Rules.{rules}
 use Rattle.consistency.proofs.flange_fits.Goals as goal
 
 pub returns-then-bf-b : goal.returns-then-bf-b

@@ -1,6 +1,5 @@
 -- `consistency::load_fits` meets its contract.
 use Rattle.consistency.specs.Consistency.{load_fits}
-use borrow.Author.Rules.{rules}
 use Rattle.consistency.proofs.load_fits.Goals as goal
 
 pub returns-in-Uniform : goal.returns-in-Uniform

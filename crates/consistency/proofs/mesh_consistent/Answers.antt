@@ -1,6 +1,5 @@
 -- `consistency::mesh_consistent` meets its contract.
 use Rattle.consistency.specs.Consistency.{mesh_consistent}
-use borrow.Author.Rules.{rules}
 use Rattle.consistency.proofs.mesh_consistent.Goals as goal
 
 pub returns : goal.returns

@@ -7,7 +7,6 @@ use Rattle.quantity.proofs.Product.{product_most}
 use Rattle.cracking.specs.Steps.{crack_spacing}
 use Rattle.cracking.proofs.Rounded.{clamp_most}
 use Rattle.cracking.proofs.Bounds.{spacing_most_lem}
-use borrow.Author.Rules.{rules}
 use Rattle.cracking.proofs.crack_spacing_of.Goals as goal
 use Rattle.cracking.proofs.crack_spacing_of.Goals.{After-div_up}
 

@@ -4,7 +4,6 @@ use Rattle.section.specs.Section.{W, S, E, D}
 use Rattle.section.specs.Section as section
 use Rattle.cracking.specs.Steps.{crack_width}
 use Rattle.cracking.proofs.Bounds.{spacing_most_lem}
-use borrow.Author.Rules.{rules}
 use Rattle.cracking.proofs.crack_width.Goals as goal
 
 -- a cover is at most 200, so 32 bits hold it

@@ -1,7 +1,5 @@
 -- `cracking::mean_stress` meets its contract.
-use Prim.Native.Nat.{◌-◌}
 use Rattle.cracking.specs.Steps.{q}
-use borrow.Author.Rules.{rules}
 use Rattle.cracking.proofs.mean_stress.Goals as goal
 
 pub returns : goal.returns

@@ -1,6 +1,5 @@
 -- `cracking::mean_stress_of` meets its contract.
 use Rattle.cracking.specs.Steps.{mean_stress}
-use borrow.Author.Rules.{rules}
 use Rattle.cracking.proofs.mean_stress_of.Goals as goal
 
 pub returns : goal.returns

@@ -1,6 +1,5 @@
 -- `cracking::steel_stress` meets its contract.
 use Rattle.cracking.specs.Steps.{σ}
-use borrow.Author.Rules.{rules}
 use Rattle.cracking.proofs.steel_stress.Goals as goal
 
 pub returns : goal.returns

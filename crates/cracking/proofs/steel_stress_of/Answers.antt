@@ -4,7 +4,6 @@ use Prim.Native.Nat.{◌*◌}
 use Rattle.quantity.proofs.Product.{product_most}
 use native.Mathlib.Nat.{mul-pos}
 use Rattle.cracking.specs.Steps.{steel_stress}
-use borrow.Author.Rules.{rules}
 use Rattle.cracking.proofs.steel_stress_of.Goals as goal
 
 pub overflow_mul-h0-2 : goal.overflow_mul-h0-2

@@ -3,7 +3,6 @@ use native.Mathlib.Omega.{arith}
 use Prim.Native.Nat.{◌*◌}
 use Rattle.quantity.proofs.Product.{product_most}
 use Rattle.cracking.specs.Steps.{stiffening}
-use borrow.Author.Rules.{rules}
 use Rattle.cracking.proofs.stiffening_of.Goals as goal
 
 pub overflow_mul-ftk-2 : goal.overflow_mul-ftk-2

@@ -1,9 +1,8 @@
 -- `cracking::stress_holds` meets its contract.
 use native.Mathlib.Omega.{arith}
-use Prim.Native.Nat.{◌-◌, ◌*◌}
+use Prim.Native.Nat.{◌*◌}
 use Rattle.quantity.proofs.Product.{product_most}
 use Rattle.cracking.specs.Steps.{stress_holds}
-use borrow.Author.Rules.{rules}
 use Rattle.cracking.proofs.stress_holds.Goals as goal
 
 pub overflow_mul-result-3 : goal.overflow_mul-result-3

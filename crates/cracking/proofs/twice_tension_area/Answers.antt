@@ -1,6 +1,5 @@
 -- `cracking::twice_tension_area` meets its contract.
 use native.Mathlib.Omega.{arith}
-use borrow.Author.Rules.{rules}
 use Rattle.cracking.proofs.twice_tension_area.Goals as goal
 
 pub overflow_mul-result : goal.overflow_mul-result

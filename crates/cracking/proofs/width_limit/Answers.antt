@@ -1,5 +1,4 @@
 -- `cracking::width_limit` meets its contract.
-use Prim.Native.Nat.{◌-◌}
 use borrow.Author.Tests.{eq-eqb, ne_eqb}
 use Rattle.cracking.specs.Steps.{width_limit}
 use Rattle.cracking.proofs.width_limit.Goals as goal

@@ -4,7 +4,6 @@ use Prim.Native.Nat.{◌*◌}
 use Rattle.quantity.proofs.Product.{product_most}
 use Rattle.cracking.specs.Bounds.{stress_most, spacing_most}
 use Rattle.cracking.specs.Steps.{width_of}
-use borrow.Author.Rules.{rules}
 use Rattle.cracking.proofs.width_of.Goals as goal
 
 pub overflow_mul-mean-2 : goal.overflow_mul-mean-2

@@ -1,5 +1,4 @@
 -- `decimal::set_four` meets its contract.
-use borrow.Author.Rules.{rules}
 use Rattle.text.proofs.Put.{put_then}
 use Rattle.decimal.proofs.set_four.Goals as goal
 

@@ -1,7 +1,6 @@
 -- `decimal::set_long` meets its contract.
 use Prim.Native.Nat.{◌/◌}
 use native.Mathlib.Omega.{arith}
-use borrow.Author.Rules.{rules}
 use Rattle.text.proofs.Put.{put_then}
 use Rattle.text.proofs.Decimal.{decimal_short}
 use Rattle.decimal.proofs.Put.{put_room}

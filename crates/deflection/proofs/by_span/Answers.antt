@@ -1,6 +1,5 @@
 -- `deflection::by_span` meets its contract.
 use native.Mathlib.Omega.{arith}
-use Prim.Native.Nat.{◌-◌}
 use borrow.Author.Tests.{lt-ltb, le-ltb, le-leb, lt-leb}
 use Rattle.deflection.proofs.by_span.Goals as goal
 

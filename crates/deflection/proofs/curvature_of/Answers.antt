@@ -7,7 +7,6 @@ use Rattle.cracking.specs.Bounds.{stress_most}
 use Rattle.deflection.specs.Bounds.{flexibility_most}
 use Rattle.deflection.specs.Steps.{curvature}
 use Rattle.deflection.proofs.Bounds.{curvature_most_lem}
-use borrow.Author.Rules.{rules}
 use Rattle.deflection.proofs.curvature_of.Goals as goal
 use Rattle.deflection.proofs.curvature_of.Goals.{After-div_up-2}
 

@@ -6,18 +6,17 @@ use Rattle.section.specs.Section.{h₀, l₀, S, S'}
 use Rattle.deflection.specs.Bounds.{curvature_most, short_term_most, long_term_most}
 use Rattle.deflection.specs.Steps.{deflection, deflection_of}
 use Rattle.deflection.proofs.Bounds.{section_curvature_most, short_most, long_most}
-use borrow.Author.Rules.{rules}
 use Rattle.deflection.proofs.deflection_figure.Goals as goal
 use Rattle.deflection.proofs.deflection_figure.Goals.{After-section_curvature-r}
 
-curvature-sized : (c : After-section_curvature-r) → c.section_curvature-r.result ≤ curvature_most
-curvature-sized c =
+curvature_sized : (c : After-section_curvature-r) → c.section_curvature-r.result ≤ curvature_most
+curvature_sized c =
     rw c.section_curvature-r.ensures (section_curvature_most c.args.x c.requires.0 c.args.mean c.args.stress c.requires.4 c.requires.2)
 
 pub short_term_of-u-requires : goal.short_term_of-u-requires
 short_term_of-u-requires c =
     let a = c.requires.0 in
-    rw (c.in_millimetres.ensures, c.in_millimetres-2.ensures) (a.l₀_most, a.slender, a.h₀_least, a.h₀_most, curvature-sized (goal.at.short_term_of-u-requires c).After-section_curvature-r)
+    rw (c.in_millimetres.ensures, c.in_millimetres-2.ensures) (a.l₀_most, a.slender, a.h₀_least, a.h₀_most, curvature_sized (goal.at.short_term_of-u-requires c).After-section_curvature-r)
 
 pub overflow_mul-u : goal.overflow_mul-u
 overflow_mul-u c =
@@ -27,7 +26,7 @@ overflow_mul-u c =
       arith,
       product_most c.short_term_of-u.result c.long_term_of-theta.result short_term_most long_term_most (
         rw (c.short_term_of-u.ensures, c.in_millimetres.ensures, c.in_millimetres-2.ensures)
-            (short_most (l₀ x) (h₀ x) c.section_curvature-r.result a.h₀_least a.slender a.l₀_most (curvature-sized (goal.at.overflow_mul-u c).After-section_curvature-r)),
+            (short_most (l₀ x) (h₀ x) c.section_curvature-r.result a.h₀_least a.slender a.l₀_most (curvature_sized (goal.at.overflow_mul-u c).After-section_curvature-r)),
         rw c.long_term_of-theta.ensures (long_most (S x) (S' x) x.flanged a.S_least),
       ),
     )

@@ -1,11 +1,9 @@
 -- `deflection::deflection_holds` meets its contract.
 use native.Mathlib.Omega.{arith}
-use Prim.Native.Nat.{◌-◌}
 use Rattle.quantity.proofs.Product.{product_most}
 use Rattle.deflection.specs.Bounds.{deflection_most}
 use Rattle.deflection.specs.Steps.{deflection_holds}
 use Rattle.deflection.proofs.Bounds.{divisor_between}
-use borrow.Author.Rules.{rules}
 use Rattle.deflection.proofs.deflection_holds.Goals as goal
 
 pub overflow_mul-result : goal.overflow_mul-result

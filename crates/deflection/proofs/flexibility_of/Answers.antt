@@ -6,7 +6,6 @@ use Rattle.quantity.proofs.Product.{product_most}
 use native.Mathlib.Nat.{mul-pos, mul_assoc}
 use Rattle.deflection.specs.Steps.{flexibility}
 use Rattle.deflection.proofs.Bounds.{flexibility_most_lem}
-use borrow.Author.Rules.{rules}
 use Rattle.deflection.proofs.flexibility_of.Goals as goal
 use Rattle.deflection.proofs.flexibility_of.Goals.{After-div_up}
 

@@ -1,7 +1,5 @@
 -- `deflection::long_term_of` meets its contract.
-use Prim.Native.Nat.{◌-◌}
 use Rattle.deflection.specs.Steps.{long_term}
-use borrow.Author.Rules.{rules}
 use Rattle.deflection.proofs.long_term_of.Goals as goal
 
 pub returns-then-flanged : goal.returns-then-flanged

@@ -4,7 +4,6 @@ use Prim.Native.Nat.{◌*◌}
 use Rattle.quantity.proofs.Product.{product_most}
 use Rattle.deflection.specs.Bounds.{curvature_most}
 use Rattle.deflection.specs.Steps.{short_term}
-use borrow.Author.Rules.{rules}
 use Rattle.deflection.proofs.short_term_of.Goals as goal
 
 pub overflow_mul-l0 : goal.overflow_mul-l0

@@ -1,8 +1,6 @@
 -- `deflection::span_divisor` meets its contract.
-use Prim.Native.Nat.{◌-◌}
 use borrow.Author.Tests.{eq-eqb, ne_eqb}
 use Rattle.deflection.specs.Steps.{span_divisor}
-use borrow.Author.Rules.{rules}
 use Rattle.deflection.proofs.span_divisor.Goals as goal
 
 pub returns-then-strict-eq1 : goal.returns-then-strict-eq1

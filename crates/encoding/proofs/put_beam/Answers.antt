@@ -1,6 +1,5 @@
 -- `encoding::put_beam` meets its contract.
 use native.Mathlib.Omega.{arith}
-use borrow.Author.Rules.{rules}
 use Rattle.text.proofs.Put.{put_then}
 use Rattle.field_table.proofs.Tables.{beam_end}
 use Rattle.encoding.proofs.Rows.{tension_few, compression_few, beam_rows}

@@ -1,6 +1,5 @@
 -- `encoding::put_column` meets its contract.
 use native.Mathlib.Omega.{arith}
-use borrow.Author.Rules.{rules}
 use Rattle.text.proofs.Put.{put_then}
 use Rattle.encoding.proofs.Rows.{column_few, column_rows}
 use Rattle.encoding.proofs.put_column.Goals as goal

@@ -1,5 +1,4 @@
 -- `encoding::put_fields` meets its contract.
-use borrow.Author.Rules.{rules}
 use Rattle.field_table.specs.Fields.{fields_of}
 use Rattle.field_layout.proofs.Held.{beam_fields_held}
 use Rattle.encoding.specs.FieldNumbers.{field_numbers}

@@ -1,5 +1,4 @@
 -- `encoding::put_member` meets its contract.
-use borrow.Author.Rules.{rules}
 use Rattle.text.proofs.Put.{put_then}
 use Rattle.encoding.specs.ScheduleBytes.{bytes_of_all}
 use Rattle.encoding.proofs.Rows.{member_numbers_lem}

@@ -1,13 +1,8 @@
 -- `encoding::put_number` meets its contract. The loop's invariant: whoever puts the septets that are left puts all of them from the start.
-use Prim.Native.Nat.{ℕ, suc, ◌^◌, ◌<◌}
-use mathlib.Core.Path.{◌≡◌, refl, ◌∙◌}
-use mathlib.Core.List.{List}
+use mathlib.Core.Path.{refl, ◌∙◌}
 use native.Mathlib.Omega.{arith}
-use borrow.Author.Rules.{rules}
-use lib.ListN.{length}
-use Rattle.text.specs.Put.{Put}
 use Rattle.text.proofs.Put.{put_then, put_length}
-use Rattle.varint.specs.Encoding.{septets_of, bytes_of}
+use Rattle.varint.specs.Encoding.{bytes_of}
 use Rattle.varint.proofs.Encoded.{one_septet}
 use Rattle.encoding.proofs.Septets.{some_left, next_septet, next_fits}
 use Rattle.encoding.proofs.put_number.Goals as goal

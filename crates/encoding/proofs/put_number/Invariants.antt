@@ -1,14 +1,9 @@
 use Prim.Native.Nat.{ℕ, suc, ◌^◌, ◌<◌}
-use mathlib.Core.Path.{◌≡◌, refl, ◌∙◌}
+use mathlib.Core.Path.{◌≡◌}
 use mathlib.Core.List.{List}
-use native.Mathlib.Omega.{arith}
-use borrow.Author.Rules.{rules}
 use lib.ListN.{length}
 use Rattle.text.specs.Put.{Put}
-use Rattle.text.proofs.Put.{put_then, put_length}
 use Rattle.varint.specs.Encoding.{septets_of, bytes_of}
-use Rattle.varint.proofs.Encoded.{one_septet}
-use Rattle.encoding.proofs.Septets.{some_left, next_septet, next_fits}
 use Rattle.encoding.proofs.put_number.Given as goal
 
 abbrev pub invariant-loop-rest : goal.invariant-loop-rest

@@ -1,13 +1,8 @@
 -- `encoding::put_row` meets its contract. The loop's invariant: whoever puts the numbers that are left puts all of them from the start.
-use Prim.Native.Nat.{ℕ, ◌-◌, ◌≤◌}
-use mathlib.Core.Path.{◌≡◌, refl, ◌∙◌}
-use mathlib.Core.List.{List}
+use mathlib.Core.Path.{refl, ◌∙◌}
 use native.Mathlib.Omega.{arith}
 use borrow.Author.Rules.{rules}
-use lib.ListN.{length}
-use Rattle.text.specs.Put.{Put, last_position}
 use Rattle.text.proofs.Put.{put_none, put_then, put_length, put_bounds}
-use Rattle.field_layout.specs.Layout.{part}
 use Rattle.encoding.specs.ScheduleBytes.{bytes_of_all}
 use Rattle.encoding.proofs.Rows.{row_none, row_more}
 use Rattle.encoding.proofs.put_row.Goals as goal

@@ -1,14 +1,10 @@
 use Prim.Native.Nat.{ℕ, ◌-◌, ◌≤◌}
-use mathlib.Core.Path.{◌≡◌, refl, ◌∙◌}
+use mathlib.Core.Path.{◌≡◌}
 use mathlib.Core.List.{List}
-use native.Mathlib.Omega.{arith}
-use borrow.Author.Rules.{rules}
 use lib.ListN.{length}
 use Rattle.text.specs.Put.{Put, last_position}
-use Rattle.text.proofs.Put.{put_none, put_then, put_length, put_bounds}
 use Rattle.field_layout.specs.Layout.{part}
 use Rattle.encoding.specs.ScheduleBytes.{bytes_of_all}
-use Rattle.encoding.proofs.Rows.{row_none, row_more}
 use Rattle.encoding.proofs.put_row.Given as goal
 
 abbrev pub invariant-loop-i : goal.invariant-loop-i

@@ -2,7 +2,6 @@
 use lib.ListN.{take, drop}
 use Rattle.field_table.specs.Fields.{tension_count, compression_count, groups, beam_fields, load_fields, beam_fields_of}
 use Rattle.field_check.proofs.Joined.{part_then, field_then}
-use borrow.Author.Rules.{rules}
 use Rattle.field_check.proofs.beam_holds.Goals as goal
 
 pub returns : goal.returns

@@ -2,7 +2,6 @@
 use lib.ListN.{drop}
 use Rattle.field_table.specs.Fields.{beam_fields}
 use Rattle.field_check.proofs.Joined.{joined_hold}
-use borrow.Author.Rules.{rules}
 use Rattle.field_check.proofs.beam_loads_hold.Goals as goal
 
 pub returns : goal.returns

@@ -2,7 +2,6 @@
 use lib.ListN.{take}
 use Rattle.field_table.specs.Fields.{beam_fields}
 use Rattle.field_check.proofs.Joined.{joined_hold}
-use borrow.Author.Rules.{rules}
 use Rattle.field_check.proofs.beam_section_holds.Goals as goal
 
 pub returns : goal.returns

@@ -2,7 +2,6 @@
 use lib.ListN.{take, drop}
 use Rattle.field_table.specs.Fields.{column_count, groups, column_fields}
 use Rattle.field_check.proofs.Joined.{part_then}
-use borrow.Author.Rules.{rules}
 use Rattle.field_check.proofs.column_holds.Goals as goal
 
 pub returns : goal.returns

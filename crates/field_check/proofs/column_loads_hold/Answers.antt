@@ -2,7 +2,6 @@
 use lib.ListN.{drop}
 use Rattle.field_table.specs.Fields.{column_fields}
 use Rattle.field_check.proofs.Joined.{joined_hold}
-use borrow.Author.Rules.{rules}
 use Rattle.field_check.proofs.column_loads_hold.Goals as goal
 
 pub returns : goal.returns

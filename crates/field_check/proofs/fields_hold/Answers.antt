@@ -1,6 +1,5 @@
 -- `field_check::fields_hold` meets its contract.
 use Rattle.field_table.specs.Fields.{fields_of}
-use borrow.Author.Rules.{rules}
 use Rattle.field_check.proofs.fields_hold.Goals as goal
 
 pub returns-in-Beam : goal.returns-in-Beam

@@ -1,7 +1,6 @@
 -- `field_check::mesh_holds` meets its contract.
 use Rattle.field_table.specs.Fields.{mesh_fields}
 use Rattle.field_check.proofs.Joined.{joined_hold}
-use borrow.Author.Rules.{rules}
 use Rattle.field_check.proofs.mesh_holds.Goals as goal
 
 pub returns : goal.returns

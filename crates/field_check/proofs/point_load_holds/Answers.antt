@@ -1,7 +1,6 @@
 -- `field_check::point_load_holds` meets its contract.
 use Rattle.field_table.specs.Fields.{shear_span, load_fields}
 use Rattle.field_check.proofs.Joined.{joined_hold}
-use borrow.Author.Rules.{rules}
 use mathlib.Core.Bool.{true}
 use Rattle.field_check.proofs.point_load_holds.Goals as goal
 

@@ -1,6 +1,5 @@
 -- `field_domain::domain_holds` meets its contract.
 use Rattle.field_domain.specs.Domain.{holds}
-use borrow.Author.Rules.{rules}
 use Rattle.field_domain.proofs.domain_holds.Goals as goal
 
 pub returns-in-Range : goal.returns-in-Range

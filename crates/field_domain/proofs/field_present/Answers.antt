@@ -1,7 +1,6 @@
 -- `field_domain::field_present` meets its contract.
-use Prim.Native.Nat.{ℕ, ◌<◌}
+use Prim.Native.Nat.{ℕ}
 use mathlib.Core.Path.{◌≡◌, refl}
-use borrow.Author.Rules.{rules}
 use Rattle.field_domain.specs.declared.Domain.{Domain}
 use Rattle.field_domain.specs.declared.Domain.TheVariants.{Range, ZeroOr, Bar, Grade, Steel, LinkSteel, GroupDiameter, GroupBars}
 use Rattle.field_domain.specs.Domain.{always, presence, is_present}

@@ -3,7 +3,6 @@ use Prim.Native.Nat.{zero-le}
 use mathlib.Core.Path.{sym}
 use lib.ListN.{get_or-eq_default}
 use borrow.Author.Tests.{le-ltb}
-use borrow.Author.Rules.{rules}
 use Rattle.field_domain.proofs.has_group.Goals as goal
 
 pub returns-else-i-slots : goal.returns-else-i-slots

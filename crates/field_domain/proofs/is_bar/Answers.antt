@@ -1,5 +1,4 @@
 -- `field_domain::is_bar` meets its contract.
-use borrow.Author.Rules.{rules}
 use Rattle.field_domain.proofs.is_bar.Goals as goal
 
 pub returns : goal.returns

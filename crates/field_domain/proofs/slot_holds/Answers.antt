@@ -1,7 +1,6 @@
 -- `field_domain::slot_holds` meets its contract.
 use mathlib.Core.Path.{sym, ◌∙◌}
 use Rattle.field_domain.specs.Domain.{field_holds}
-use borrow.Author.Rules.{rules}
 use Rattle.field_domain.proofs.slot_holds.Goals as goal
 
 pub returns-then-field_present : goal.returns-then-field_present

@@ -2,7 +2,6 @@
 use Rattle.field_layout.proofs.Made.{beam_made}
 use mathlib.Core.Path.{refl}
 use Rattle.field_layout.specs.Layout.{beam_at}
-use borrow.Author.Rules.{rules}
 use Rattle.field_layout.proofs.beam_of.Goals as goal
 
 pub returns : goal.returns

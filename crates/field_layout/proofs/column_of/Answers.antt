@@ -1,6 +1,5 @@
 -- `field_layout::column_of` meets its contract.
 use Rattle.field_layout.specs.Layout.{column_at}
-use borrow.Author.Rules.{rules}
 use Rattle.field_layout.proofs.column_of.Goals as goal
 
 pub returns : goal.returns

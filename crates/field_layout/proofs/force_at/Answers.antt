@@ -1,5 +1,4 @@
 -- `field_layout::force_at` meets its contract.
-use borrow.Author.Rules.{rules}
 use Rattle.field_layout.proofs.force_at.Goals as goal
 
 pub returns : goal.returns

@@ -1,5 +1,4 @@
 -- `field_layout::length_at` meets its contract.
-use borrow.Author.Rules.{rules}
 use Rattle.field_layout.proofs.length_at.Goals as goal
 
 pub returns : goal.returns

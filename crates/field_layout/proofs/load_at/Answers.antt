@@ -2,7 +2,6 @@
 use mathlib.Core.Path.{ap}
 use Rattle.quantity.specs.Unit.{millimetres}
 use Rattle.member.specs.declared.Load.TheVariants.{Point}
-use borrow.Author.Rules.{rules}
 use Rattle.field_layout.proofs.load_at.Goals as goal
 
 pub returns-then-pointLoad : goal.returns-then-pointLoad

@@ -1,6 +1,5 @@
 -- `field_layout::mesh_of` meets its contract.
 use Rattle.field_layout.specs.Layout.{mesh_at}
-use borrow.Author.Rules.{rules}
 use Rattle.field_layout.proofs.mesh_of.Goals as goal
 
 pub returns : goal.returns

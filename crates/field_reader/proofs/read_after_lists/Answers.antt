@@ -3,7 +3,6 @@ use mathlib.Core.Path.{◌∙◌}
 use Rattle.field_table.proofs.Tables.{beam_end}
 use Rattle.field_validator.proofs.Taken.{loads_row}
 use Rattle.field_reader.proofs.Rows.{same_got}
-use borrow.Author.Rules.{rules}
 use Rattle.field_reader.proofs.read_after_lists.Goals as goal
 
 pub read_row-requires : goal.read_row-requires

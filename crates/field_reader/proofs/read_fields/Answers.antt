@@ -1,7 +1,6 @@
 -- `field_reader::read_fields` meets its contract.
 use mathlib.Core.Path.{◌∙◌}
 use native.Mathlib.Omega.{arith}
-use borrow.Author.Rules.{rules}
 use Rattle.field_table.specs.Fields.{fields_of}
 use Rattle.field_validator.proofs.Taken.{mesh_rows}
 use Rattle.field_reader.proofs.Rows.{same_got}

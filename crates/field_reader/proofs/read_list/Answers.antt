@@ -1,7 +1,6 @@
 -- `field_reader::read_list` meets its contract.
 use mathlib.Core.Path.{sym, ◌∙◌}
 use native.Mathlib.Omega.{arith}
-use borrow.Author.Rules.{rules}
 use Rattle.field_validator.proofs.Taken.{list_taken}
 use Rattle.field_reader.proofs.Rows.{same_got}
 use Rattle.field_reader.proofs.read_list.Goals as goal

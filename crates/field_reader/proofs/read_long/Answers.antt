@@ -3,8 +3,6 @@
 use mathlib.Core.Path.{◌≡◌, refl, ◌∙◌}
 use Prim.Native.Nat.{suc, ◌+◌, ◌-◌, ◌*◌, ◌^◌, ◌≤◌, ◌<◌}
 use native.Mathlib.Omega.{arith}
-use lib.ListN.{get_or}
-use borrow.Author.Rules.{rules}
 use Rattle.varint.specs.declared.Number.TheVariants.{Value}
 use Rattle.varint.specs.Varint.{septets_at}
 use Rattle.varint.proofs.Septets.{below}
@@ -15,9 +13,9 @@ use Rattle.field_reader.proofs.read_long.Goals as goal
 use Rattle.field_reader.proofs.read_long.Goals.{After-loop-b, At-loop-b, In-loop-b}
 
 -- the number is read from here on
-read-on : (c : At-loop-b) →
+read_on : (c : At-loop-b) →
     Got (of_number (septets_at (suc (c.args.at + 2 - c.loop-b.p)) c.args.src.now c.loop-b.p c.loop-b.w c.loop-b.v))
-read-on c = rw c.loop-b.invariant.6 at c.requires.1
+read_on c = rw c.loop-b.invariant.6 at c.requires.1
 
 -- the weight in a turn
 top : (c : At-loop-b) → c.loop-b.w ≤ 128 ^ 4
@@ -65,12 +63,12 @@ pub overflow_mul-w : goal.overflow_mul-w
 overflow_mul-w c = omega (arith, top (goal.at.overflow_mul-w c).At-loop-b)
 
 pub overflow_add-p : goal.overflow_add-p
-overflow_add-p c = omega (arith, there _ _ _ _ _ (read-on (goal.at.overflow_add-p c).At-loop-b), c.well_formed.0.0)
+overflow_add-p c = omega (arith, there _ _ _ _ _ (read_on (goal.at.overflow_add-p c).At-loop-b), c.well_formed.0.0)
 
 pub bounds-src-p-in-loop-b : goal.bounds-src-p-in-loop-b
 bounds-src-p-in-loop-b c =
     let l = c.loop-b in
-    there _ _ _ _ _ (rw (turn _ _ _ _ _ _ l.invariant.5 c.loop-b-test.true (read-on (goal.at.bounds-src-p-in-loop-b c).At-loop-b)) at (read-on (goal.at.bounds-src-p-in-loop-b c).At-loop-b))
+    there _ _ _ _ _ (rw (turn _ _ _ _ _ _ l.invariant.5 c.loop-b-test.true (read_on (goal.at.bounds-src-p-in-loop-b c).At-loop-b)) at (read_on (goal.at.bounds-src-p-in-loop-b c).At-loop-b))
 
 pub loop-b-smaller : goal.loop-b-smaller
 loop-b-smaller c = omega (arith, c.loop-b.invariant.0)
@@ -78,7 +76,7 @@ loop-b-smaller c = omega (arith, c.loop-b.invariant.0)
 pub loop-b-preserved : goal.loop-b-preserved
 loop-b-preserved c =
     let l = c.loop-b in
-    let on = read-on (goal.at.loop-b-preserved c).At-loop-b in (
+    let on = read_on (goal.at.loop-b-preserved c).At-loop-b in (
       another _ _ _ _ _ _ l.invariant.5 c.loop-b-test.true on,
       omega (arith, l.invariant.1),
       rw l.invariant.2 (weight_after _ _ l.invariant.1),
@@ -95,7 +93,7 @@ pub overflow_add-v-2 : goal.overflow_add-v-2
 overflow_add-v-2 c = omega (arith, (ended (goal.at.overflow_add-v-2 c).After-loop-b).0)
 
 pub overflow_add-p-2 : goal.overflow_add-p-2
-overflow_add-p-2 c = omega (arith, there _ _ _ _ _ (read-on (goal.at.overflow_add-p-2 c).At-loop-b), c.well_formed.0.0)
+overflow_add-p-2 c = omega (arith, there _ _ _ _ _ (read_on (goal.at.overflow_add-p-2 c).At-loop-b), c.well_formed.0.0)
 
 pub number_read-requires : goal.number_read-requires
 number_read-requires c = (ended (goal.at.number_read-requires c).After-loop-b).0

@@ -1,14 +1,7 @@
-use mathlib.Core.Path.{◌≡◌, refl, ◌∙◌}
-use Prim.Native.Nat.{suc, ◌+◌, ◌-◌, ◌*◌, ◌^◌, ◌≤◌, ◌<◌}
-use native.Mathlib.Omega.{arith}
+use mathlib.Core.Path.{◌≡◌}
+use Prim.Native.Nat.{suc, ◌+◌, ◌-◌, ◌^◌, ◌≤◌, ◌<◌}
 use lib.ListN.{get_or}
-use borrow.Author.Rules.{rules}
-use Rattle.varint.specs.declared.Number.TheVariants.{Value}
 use Rattle.varint.specs.Varint.{septets_at}
-use Rattle.varint.proofs.Septets.{below}
-use Rattle.question.specs.Reading.{Got}
-use Rattle.field_validator.specs.Placed.{of_number}
-use Rattle.field_reader.proofs.Numbers.{there, ends, another, turn, weight_at, weight_after}
 use Rattle.field_reader.proofs.read_long.Given as goal
 
 abbrev pub invariant-loop-b : goal.invariant-loop-b

@@ -3,7 +3,6 @@ use mathlib.Core.Path.{◌∙◌}
 use Prim.Native.Nat.{◌+◌, ◌<◌}
 use native.Mathlib.Omega.{arith}
 use lib.ListN.{length}
-use borrow.Author.Rules.{rules}
 use Rattle.field_reader.proofs.Numbers.{first_there, first_ends, second_there, second_ends, third_follows, third_read}
 use Rattle.field_reader.proofs.read_number.Goals as goal
 use Rattle.field_reader.proofs.read_number.Goals.{After-widen-first, After-widen-second, Else-first-lt128}
@@ -12,8 +11,8 @@ use Rattle.field_reader.proofs.read_number.Goals.{After-widen-first, After-widen
 first_byte : (c : After-widen-first) → c.widen-first.result < 256
 first_byte c = omega (arith, c.widen-first.ensures, c.shared_slice_known-2-1.given c.args.at)
 
-second-byte : (c : After-widen-second) → c.widen-second.result < 256
-second-byte c =
+second_byte : (c : After-widen-second) → c.widen-second.result < 256
+second_byte c =
     omega (arith, c.widen-second.ensures, c.shared_slice_known-3-1.given (c.args.at + 1))
 
 -- the second stands inside the bytes
@@ -57,14 +56,14 @@ overflow_add-at-3 c =
     omega (arith, inside (goal.at.overflow_add-at-3 c).Else-first-lt128, c.well_formed.0.0)
 
 pub overflow_mul-second-2 : goal.overflow_mul-second-2
-overflow_mul-second-2 c = omega (arith, second-byte (goal.at.overflow_mul-second-2 c).After-widen-second)
+overflow_mul-second-2 c = omega (arith, second_byte (goal.at.overflow_mul-second-2 c).After-widen-second)
 
 pub overflow_add-first-2 : goal.overflow_add-first-2
-overflow_add-first-2 c = omega (arith, first_byte (goal.at.overflow_add-first-2 c).After-widen-first, second-byte (goal.at.overflow_add-first-2 c).After-widen-second)
+overflow_add-first-2 c = omega (arith, first_byte (goal.at.overflow_add-first-2 c).After-widen-first, second_byte (goal.at.overflow_add-first-2 c).After-widen-second)
 
 pub read_long-requires : goal.read_long-requires
 read_long-requires c = (
-  omega (arith, first_byte (goal.at.read_long-requires c).After-widen-first, second-byte (goal.at.read_long-requires c).After-widen-second),
+  omega (arith, first_byte (goal.at.read_long-requires c).After-widen-first, second_byte (goal.at.read_long-requires c).After-widen-second),
   third_read _ _ c.requires _ c.widen-first.ensures c.if-first-lt128.false _ c.widen-second.ensures c.if-second-lt128.false,
 )
 

@@ -1,8 +1,6 @@
 -- `field_reader::read_row` meets its contract.
-use mathlib.Core.Path.{◌≡◌, refl, ◌∙◌}
-use Prim.Native.Nat.{◌-◌, ◌≤◌}
+use mathlib.Core.Path.{refl, ◌∙◌}
 use borrow.Author.Rules.{rules}
-use Rattle.field_validator.specs.Taken.{taken_row}
 use Rattle.field_validator.proofs.Taken.{row_ended, row_stored}
 use Rattle.field_reader.proofs.Rows.{number_got}
 use Rattle.field_reader.proofs.read_row.Goals as goal

@@ -1,9 +1,6 @@
-use mathlib.Core.Path.{◌≡◌, refl, ◌∙◌}
+use mathlib.Core.Path.{◌≡◌}
 use Prim.Native.Nat.{◌-◌, ◌≤◌}
-use borrow.Author.Rules.{rules}
 use Rattle.field_validator.specs.Taken.{taken_row}
-use Rattle.field_validator.proofs.Taken.{row_ended, row_stored}
-use Rattle.field_reader.proofs.Rows.{number_got}
 use Rattle.field_reader.proofs.read_row.Given as goal
 
 abbrev pub invariant-loop-i : goal.invariant-loop-i

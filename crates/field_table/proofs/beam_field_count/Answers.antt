@@ -1,5 +1,4 @@
 -- `field_table::beam_field_count` meets its contract.
-use borrow.Author.Rules.{rules}
 use Rattle.field_table.proofs.beam_field_count.Goals as goal
 
 pub returns-then-pointLoad : goal.returns-then-pointLoad

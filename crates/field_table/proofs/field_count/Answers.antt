@@ -1,5 +1,4 @@
 -- `field_table::field_count` meets its contract.
-use borrow.Author.Rules.{rules}
 use Rattle.field_table.specs.Fields.{fields_of}
 use Rattle.field_table.proofs.field_count.Goals as goal
 

@@ -1,6 +1,5 @@
 -- `field_table::field_of` meets its contract.
 use mathlib.Core.Path.{◌∙◌}
-use borrow.Author.Rules.{rules}
 use Rattle.field_table.specs.Fields.{fields_of}
 use Rattle.field_table.proofs.Tables.{beam_within, beam_field_same}
 use Rattle.field_table.proofs.field_of.Goals as goal

@@ -1,6 +1,5 @@
 -- `field_table::is_known` meets its contract.
 use Rattle.field_table.specs.Fields.{known}
-use borrow.Author.Rules.{rules}
 use Rattle.field_table.proofs.is_known.Goals as goal
 
 pub returns : goal.returns

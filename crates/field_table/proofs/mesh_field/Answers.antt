@@ -1,6 +1,5 @@
 -- `field_table::mesh_field` meets its contract: an arm for each field, the last left over.
 use Prim.Native.Nat.{zero-le}
-use borrow.Author.Rules.{rules}
 use Rattle.field_table.proofs.Tables.{none_from, last_place}
 use Rattle.field_table.proofs.mesh_field.Goals as goal
 

@@ -1,5 +1,4 @@
 -- `field_validator::refused_fields` meets its contract.
-use borrow.Author.Rules.{rules}
 use Rattle.field_validator.proofs.refused_fields.Goals as goal
 
 pub returns : goal.returns

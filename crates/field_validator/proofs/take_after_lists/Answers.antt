@@ -2,7 +2,6 @@
 use mathlib.Core.Path.{sym, ◌∙◌}
 use Rattle.field_table.proofs.Tables.{beam_end}
 use Rattle.field_validator.proofs.Taken.{loads_row}
-use borrow.Author.Rules.{rules}
 use Rattle.field_validator.proofs.take_after_lists.Goals as goal
 
 pub take_row-requires : goal.take_row-requires

@@ -1,7 +1,6 @@
 -- `field_validator::take_column` meets its contract.
 use mathlib.Core.Path.{sym, ◌∙◌}
 use Rattle.field_validator.proofs.Taken.{column_rows, then_refused, then_on}
-use borrow.Author.Rules.{rules}
 use Rattle.field_validator.proofs.take_column.Goals as goal
 
 pub returns-in-Refused : goal.returns-in-Refused

@@ -2,7 +2,6 @@
 use mathlib.Core.Path.{sym, ◌∙◌}
 use Rattle.field_table.specs.Fields.{fields_of}
 use Rattle.field_validator.proofs.Taken.{mesh_rows}
-use borrow.Author.Rules.{rules}
 use Rattle.field_validator.proofs.take_fields.Goals as goal
 
 pub returns-in-Beam : goal.returns-in-Beam

@@ -1,7 +1,6 @@
 -- `field_validator::take_list` meets its contract.
 use mathlib.Core.Path.{◌∙◌}
 use Rattle.field_validator.proofs.Taken.{list_taken}
-use borrow.Author.Rules.{rules}
 use Rattle.field_validator.proofs.take_list.Goals as goal
 
 pub returns : goal.returns

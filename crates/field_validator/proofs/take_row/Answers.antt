@@ -1,8 +1,6 @@
 -- `field_validator::take_row` meets its contract.
-use Prim.Native.Nat.{◌-◌, ◌≤◌}
-use mathlib.Core.Path.{◌≡◌, refl, sym, ◌∙◌}
+use mathlib.Core.Path.{refl, sym, ◌∙◌}
 use borrow.Author.Rules.{rules}
-use Rattle.field_validator.specs.Taken.{taken_row}
 use Rattle.field_validator.proofs.Taken.{row_ended, row_refused, row_stored}
 use Rattle.field_validator.proofs.take_row.Goals as goal
 

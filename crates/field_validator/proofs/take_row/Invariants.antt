@@ -1,8 +1,6 @@
 use Prim.Native.Nat.{◌-◌, ◌≤◌}
-use mathlib.Core.Path.{◌≡◌, refl, sym, ◌∙◌}
-use borrow.Author.Rules.{rules}
+use mathlib.Core.Path.{◌≡◌}
 use Rattle.field_validator.specs.Taken.{taken_row}
-use Rattle.field_validator.proofs.Taken.{row_ended, row_refused, row_stored}
 use Rattle.field_validator.proofs.take_row.Given as goal
 
 abbrev pub invariant-loop-i : goal.invariant-loop-i

@@ -3,7 +3,6 @@ use mathlib.Core.Path.{sym, ◌∙◌}
 use Rattle.question.specs.declared.Question.TheVariants.{Field}
 use Rattle.field_domain.specs.Domain.{holds}
 use Rattle.field_validator.proofs.Checked.{number_refused, number_passes, number_fails}
-use borrow.Author.Rules.{rules}
 use Rattle.field_validator.proofs.validate_field.Goals as goal
 
 pub returns-in-Refused : goal.returns-in-Refused

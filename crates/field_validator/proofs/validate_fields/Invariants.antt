@@ -1,13 +1,8 @@
-use Prim.Native.Nat.{◌-◌, ◌≤◌, ◌<◌}
-use mathlib.Core.Path.{◌≡◌, refl, sym, ap, ◌∙◌}
+use Prim.Native.Nat.{◌-◌, ◌≤◌}
+use mathlib.Core.Path.{◌≡◌}
 use lib.ListN.{length, drop}
-use native.Mathlib.Omega.{arith}
-use borrow.Author.Rules.{rules}
 use Rattle.field_table.specs.Fields.{fields_of}
-use Rattle.field_table.proofs.Tables.{fields_fit}
 use Rattle.field_validator.specs.FieldsAt.{empty, fields}
-use Rattle.field_validator.specs.FieldsResult.{fields_read_of}
-use Rattle.field_validator.proofs.Fields.{fields_read, field_absent, field_refused, field_stored}
 use Rattle.field_validator.proofs.validate_fields.Given as goal
 
 abbrev pub invariant-loop-i : goal.invariant-loop-i

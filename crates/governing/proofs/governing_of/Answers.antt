@@ -1,6 +1,5 @@
 -- `governing::governing_of` meets its contract.
 use Rattle.governing.proofs.Largest.{governs}
-use borrow.Author.Rules.{rules}
 use Rattle.governing.proofs.governing_of.Goals as goal
 
 pub returns : goal.returns

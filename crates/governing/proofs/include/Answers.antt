@@ -1,5 +1,4 @@
 -- `governing::include` meets its contract.
-use borrow.Author.Rules.{rules}
 use Rattle.governing.proofs.include.Goals as goal
 
 pub returns-then-most-value : goal.returns-then-most-value

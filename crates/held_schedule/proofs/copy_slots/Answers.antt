@@ -1,11 +1,7 @@
 -- `held_schedule::copy_slots` meets its contract. The loop's invariant: whoever stores the words that are left has stored all of them.
-use Prim.Native.Nat.{◌+◌, ◌-◌}
-use mathlib.Core.Path.{◌≡◌, sym, ◌∙◌}
+use mathlib.Core.Path.{sym, ◌∙◌}
 use native.Mathlib.Omega.{arith}
-use lib.ListN.{length, length-set}
-use lib.Seq.{sets}
-use borrow.Author.Rules.{rules}
-use Rattle.field_layout.specs.Layout.{part}
+use lib.ListN.{length-set}
 use Rattle.held_schedule.proofs.Slots.{all_left, word_stored, all_stored}
 use Rattle.held_schedule.proofs.copy_slots.Goals as goal
 

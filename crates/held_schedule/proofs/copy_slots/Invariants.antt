@@ -1,11 +1,8 @@
 use Prim.Native.Nat.{◌+◌, ◌-◌}
-use mathlib.Core.Path.{◌≡◌, sym, ◌∙◌}
-use native.Mathlib.Omega.{arith}
-use lib.ListN.{length, length-set}
+use mathlib.Core.Path.{◌≡◌}
+use lib.ListN.{length}
 use lib.Seq.{sets}
-use borrow.Author.Rules.{rules}
 use Rattle.field_layout.specs.Layout.{part}
-use Rattle.held_schedule.proofs.Slots.{all_left, word_stored, all_stored}
 use Rattle.held_schedule.proofs.copy_slots.Given as goal
 
 abbrev pub invariant-loop-i : goal.invariant-loop-i

@@ -1,6 +1,5 @@
 -- `held_schedule::read_record` meets its contract.
 use mathlib.Core.Path.{refl}
-use borrow.Author.Rules.{rules}
 use Rattle.held_schedule.specs.HeldSchedule.{record_at}
 use Rattle.held_schedule.proofs.read_record.Goals as goal
 

@@ -1,6 +1,5 @@
 -- `held_schedule::record_verdict` meets its contract.
 use mathlib.Core.Path.{sym, ap, ◌∙◌}
-use borrow.Author.Rules.{rules}
 use Rattle.members.specs.MembersResult.{headed}
 use Rattle.held_schedule.specs.HeldSchedule.{record_verdict}
 use Rattle.held_schedule.proofs.Records.{mark_rises_lem, mark_stays}

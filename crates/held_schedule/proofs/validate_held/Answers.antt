@@ -1,6 +1,5 @@
 -- `held_schedule::validate_held` meets its contract.
 use mathlib.Core.Path.{sym, ap, ◌∙◌}
-use borrow.Author.Rules.{rules}
 use Rattle.schedule.specs.Schedule.{schedule_answer}
 use Rattle.held_schedule.proofs.Records.{too_many, few}
 use Rattle.held_schedule.proofs.validate_held.Goals as goal

@@ -1,12 +1,7 @@
 -- `held_schedule::validate_records` meets its contract. The loop's invariant: the answer to the records that are left is that to all of them.
-use Prim.Native.Nat.{◌+◌, ◌*◌, ◌≤◌}
-use mathlib.Core.Path.{◌≡◌, sym, ◌∙◌}
-use lib.ListN.{length}
+use mathlib.Core.Path.{sym, ◌∙◌}
 use native.Mathlib.Omega.{arith}
-use borrow.Author.Rules.{rules}
-use Rattle.schedule.specs.Schedule.{schedule_answer}
-use Rattle.held_schedule.specs.HeldSchedule.{records_from, record_members}
-use Rattle.held_schedule.proofs.Records.{answer_of, counted, no_record, record_refused, record_accepted}
+use Rattle.held_schedule.proofs.Records.{counted, no_record, record_refused, record_accepted}
 use Rattle.held_schedule.proofs.validate_records.Goals as goal
 
 pub loop-left-init : goal.loop-left-init

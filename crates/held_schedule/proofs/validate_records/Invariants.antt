@@ -1,11 +1,9 @@
 use Prim.Native.Nat.{◌+◌, ◌*◌, ◌≤◌}
-use mathlib.Core.Path.{◌≡◌, sym, ◌∙◌}
+use mathlib.Core.Path.{◌≡◌}
 use lib.ListN.{length}
-use native.Mathlib.Omega.{arith}
-use borrow.Author.Rules.{rules}
 use Rattle.schedule.specs.Schedule.{schedule_answer}
 use Rattle.held_schedule.specs.HeldSchedule.{records_from, record_members}
-use Rattle.held_schedule.proofs.Records.{answer_of, counted, no_record, record_refused, record_accepted}
+use Rattle.held_schedule.proofs.Records.{answer_of}
 use Rattle.held_schedule.proofs.validate_records.Given as goal
 
 abbrev pub invariant-loop-left : goal.invariant-loop-left

@@ -1,6 +1,5 @@
 -- `lap::lap_length` meets its contract.
 use Rattle.lap.specs.Steps.{lap_length}
-use borrow.Author.Rules.{rules}
 use Rattle.lap.proofs.lap_length.Goals as goal
 
 pub returns : goal.returns

@@ -4,7 +4,6 @@ use native.Mathlib.Omega.{arith}
 use Rattle.member.specs.Member.{mesh_of}
 use Rattle.lap.specs.Steps.{required_lap}
 use Rattle.lap.proofs.Bounds.{most_tension, tension_most}
-use borrow.Author.Rules.{rules}
 use Rattle.lap.proofs.required_lap.Goals as goal
 use Rattle.lap.proofs.required_lap.Goals.{After-tension_lap-lap}
 

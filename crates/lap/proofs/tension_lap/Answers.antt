@@ -5,7 +5,6 @@ use Rattle.member.specs.Member.{mesh_of}
 use Rattle.anchorage.proofs.Bounds.{basic_most}
 use Rattle.lap.specs.Steps.{tension_lap}
 use Rattle.lap.proofs.Bounds.{row_most, parts}
-use borrow.Author.Rules.{rules}
 use Rattle.lap.proofs.tension_lap.Goals as goal
 use Rattle.lap.proofs.tension_lap.Goals.{After-select-thick}
 

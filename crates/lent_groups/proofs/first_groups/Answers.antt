@@ -1,7 +1,7 @@
 -- `first_groups`: a walk of its code, by hand. `group_or` is called four times on the slice and the count: of what the slice owns one copy goes to the callee and one is kept.
 use mathlib.Core.Path.{◌≡◌, refl}
 use Prim.Native.Nat.{ℕ, ◌<◌, ◌^◌}
-use mathlib.Core.List.{List, [], ◌∷◌}
+use mathlib.Core.List.{List, ◌∷◌}
 use lib.Dec.{lit<}
 use lib.ListN.{length, get_or, take}
 use seplogic.Ra.Ura.{Ura}
@@ -14,7 +14,6 @@ use prog.Routine.{Routine}
 use prog.Wp.{Calls, Loops, WpFn, Tables}
 use types.Logic.{Logic, sem}
 use contract.Monad.{Fun, fact}
-use contract.Running.{tables, tables_of}
 use types.Kit.{Item, ‵, raw, ◌⊛◌, ⋆, some, later, ◌$◌, ◌∵◌, !, qed, by, move, drop, use1, use2, split, join, pick, fsplit, fjoin, suffices, frame, await, done}
 use types.Part.{agg}
 use types.Run.{look, init, forget, stop, from, load, lit, and_then, no_more, assigns, land, returns, enter, alloc1, alloc0, params1, pass1, pass0, free1, free0}
@@ -33,7 +32,6 @@ use denote.Triple.Statement.{Contract, Triple}
 use denote.Triple.Call.{calls_at}
 use denote.Triple.Entry.{Vals, on_entry}
 use denote.Triple.Spec.{Meets, triple_of}
-use denote.Triple.Table.{entered, cited}
 use denote.Triple.Walked.{says, Stays, stay_none, stay_none_slice, walk_of, Goes-none, Goes-none_slice, Walks, ends_at, walked, walk_Meets}
 use denote.Triple.Clauses.{ensured, lasts}
 use denote.Exit.{yes}
@@ -42,14 +40,9 @@ use Rattle.bars.specs.contracts.Group as G
 use Rattle.bars.proofs.Group.TheLaws as G'
 use Rattle.lent_groups.specs.CopiedGroups.{no_group, first_four}
 use Rattle.lent_groups.specs.contracts.group_or as group-or
-use Rattle.lent_groups.proofs.group_or.Symbol as group-or-def
 use Rattle.lent_groups.proofs.group_or.Symbol.{name as #lent-groups·group-or}
-use Rattle.lent_groups.proofs.group_or.Met as group-or-thm
-use Rattle.lent_groups.specs.contracts.first_groups.Key.{name as #lent-groups·first-groups}
 use Rattle.lent_groups.specs.contracts.first_groups as self
-use Rattle.lent_groups.proofs.first_groups.Statement as stated
 use Rattle.lent_groups.proofs.first_groups.Code as code
-use Rattle.lent_groups.proofs.first_groups.Goals as goal
 
 abbrev stayed : Stays (self.ended).signature.params (self.ended).kept
 stayed = (stay_none_slice (0 ∷ []) tt (plain (λ _. G.the_row)) yes, (stay_none (λ _. usize) yes, tt))
@@ -142,7 +135,7 @@ module _ {M : Type 1} {𝓤 : Ura M} (𝓛 : Logic 𝓤) (mem : Memory → SProp
   first-groups-walks C Λ fm known = walked 𝓛 self.ended stayed (self.clauses 𝓛 mem run) (WpFn 𝓤 H C Λ code.function) (λ κs. (shr_slice_vals, (uint_vals w64, tt))) (λ κs. (shr_slice_Tells (named 0) κs.0 G.the_row, (uint_Tells w64, tt)))
       (λ κs qs bounds a g are. via 𝓤 _ (fst∗ 𝓤 _ (emp 𝓤)) (walk 𝓛 mem run κs.0 qs.0 a.0 a.1.0 are.1.0.1 C Λ fm known are.0))
 
-first-groups-meets : {M : Type 1} {𝓤 : Ura M} (𝓛 : Logic 𝓤) (mem : Memory → SProp 𝓤) (run : Routine → Fun 𝓤) (𝓣 : Tables 𝓤 𝓛.H) → Triple 𝓤 (𝓣.C #lent-groups·group-or) (GroupOr 𝓛 mem run)
+first_groups_meets : {M : Type 1} {𝓤 : Ura M} (𝓛 : Logic 𝓤) (mem : Memory → SProp 𝓤) (run : Routine → Fun 𝓤) (𝓣 : Tables 𝓤 𝓛.H) → Triple 𝓤 (𝓣.C #lent-groups·group-or) (GroupOr 𝓛 mem run)
     → Meets 𝓛 self.signature (WpFn 𝓤 𝓛.H 𝓣.C 𝓣.Λ code.function) (self.spec 𝓛 mem run)
-first-groups-meets {𝓤 = 𝓤} 𝓛 mem run 𝓣 known = walk_Meets 𝓛 self.ended stayed (Goes-none_slice 𝓛 1 (0 ∷ []) tt (plain (λ _. G.the_row)) yes, (Goes-none 𝓛 1 (λ _. usize) yes (λ κs x f. refl), tt)) (self.clauses 𝓛 mem run) (WpFn 𝓤 𝓛.H 𝓣.C 𝓣.Λ code.function) (WpFn-mono 𝓤 𝓛.H 𝓛.laws 𝓣 code.function)
+first_groups_meets {𝓤 = 𝓤} 𝓛 mem run 𝓣 known = walk_Meets 𝓛 self.ended stayed (Goes-none_slice 𝓛 1 (0 ∷ []) tt (plain (λ _. G.the_row)) yes, (Goes-none 𝓛 1 (λ _. usize) yes (λ κs x f. refl), tt)) (self.clauses 𝓛 mem run) (WpFn 𝓤 𝓛.H 𝓣.C 𝓣.Λ code.function) (WpFn-mono 𝓤 𝓛.H 𝓛.laws 𝓣 code.function)
     (first-groups-walks 𝓛 mem run 𝓣.C 𝓣.Λ (fm_of 𝓤 𝓛.H 𝓛.laws 𝓣) known)

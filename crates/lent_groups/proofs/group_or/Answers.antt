@@ -2,7 +2,7 @@
 use mathlib.Core.Path.{◌≡◌, refl, sym}
 use Prim.Native.Nat.{ℕ, ◌*◌, ◌<◌, ◌≤◌, ◌^◌, min}
 use native.Mathlib.Omega.{arith}
-use mathlib.Core.List.{List, [], ◌∷◌}
+use mathlib.Core.List.{List, ◌∷◌}
 use lib.Dec.{T, lit<, ltb→lt, nltb→le}
 use lib.ListN.{length, get_or, take, length-take, get_or-eq_default}
 use lib.Seq.{get_or-take}
@@ -17,7 +17,6 @@ use prog.Routine.{Routine}
 use prog.Wp.{Heap, Env, Out, Calls, Loops, Wp, WpFn, Tables, after_seq, at_return}
 use types.Logic.{Logic}
 use contract.Monad.{Fun}
-use contract.Running.{tables, tables_of}
 use types.Kit.{Item, any_q, at_ret, put, ‵, ◌⊛◌, ⋆, ◌$◌, ◌∵◌, !, qed, by, move, drop, split, join, rewrite, fsplit, fjoin, suffices, frame, done}
 use types.Part.{whole, sub, look_in, agg}
 use types.Run.{look, look_raw, init, forget, stop, hop, fld, from, load, lit, of_opd, and_then, no_more, bin, assigns, assigns_last, first, branches, exec, returns, enter, alloc1, alloc0, params1, pass1, pass0, free1, free0}
@@ -34,20 +33,16 @@ use denote.Signature.{plain}
 use denote.Steps.{owned, nothing}
 use denote.Struct.Laws as LL
 use denote.Triple.Entry.{Vals, on_entry}
-use denote.Triple.Spec.{Meets, triple_of}
-use denote.Triple.Table.{entered}
+use denote.Triple.Spec.{Meets}
 use denote.Triple.Walked.{says, Stays, stay_none, stay_none_slice, walk_of, Goes-none, Goes-none_slice, Walks, ends_at, walked, walk_Meets}
 use denote.Exit.{yes}
 use Rattle.bars.specs.declared.Group.{Group}
 use Rattle.bars.specs.contracts.Group as G
 use Rattle.bars.proofs.Group.TheLaws as G'
-use Rattle.lent_groups.specs.contracts.group_or.Key.{name as #lent-groups·group-or}
 use Rattle.lent_groups.specs.contracts.group_or as group-or
-use Rattle.lent_groups.proofs.group_or.Statement as stated
 use Rattle.lent_groups.proofs.group_or.Code as code
 use Rattle.lent_groups.proofs.group_or.Code.Mir as mir
 use Rattle.lent_groups.specs.CopiedGroups.{no_group}
-use Rattle.lent_groups.proofs.group_or.Goals as goal
 
 abbrev stayed : Stays (group-or.ended).signature.params (group-or.ended).kept
 stayed = (stay_none_slice (0 ∷ []) tt (plain (λ _. G.the_row)) yes, (stay_none (λ _. usize) yes, (stay_none (λ _. usize) yes, tt)))
@@ -56,8 +51,8 @@ abbrev vals : Group → List Val
 vals = LL.vals G.the_type G'.the_laws
 
 -- the offset of an element fits a usize
-offset-fits : (n i : ℕ) → n * 8 < 2 ^ 63 → i < n → i * 8 < 2 ^ 64
-offset-fits n i r l = omega arith
+offset_fits : (n i : ℕ) → n * 8 < 2 ^ 63 → i < n → i * 8 < 2 ^ 64
+offset_fits n i r l = omega arith
 
 -- a group of no bars
 made : Is G.the_row no_group (G'.lowered no_group ∷ [])
@@ -152,7 +147,7 @@ module _ {M : Type 1} {𝓤 : Ura M} (𝓛 : Logic 𝓤) (mem : Memory → SProp
         assigns ! (bin ! (load ! (from ! (stop !)) (look ! 18 refl)) (load ! (from ! (stop !)) (look ! 12 refl)) tt) (from ! (stop !)) (init ! 10 refl (tt, tt)) $
         first ! $ branches ! (load ! (from ! (stop !)) (look ! 10 refl))
         (λ below. let l : i < length ys = ltb→lt i (length ys) below in
-        assigns ! (bin ! (load ! (from ! (stop !)) (look ! 18 refl)) (lit ! tt) (record { fits = offset-fits (length ys) i room.1 l })) (from ! (stop !)) (init ! 6 refl (tt, record { fits = offset-fits (length ys) i room.1 l })) $
+        assigns ! (bin ! (load ! (from ! (stop !)) (look ! 18 refl)) (lit ! tt) (record { fits = offset_fits (length ys) i room.1 l })) (from ! (stop !)) (init ! 6 refl (tt, record { fits = offset_fits (length ys) i room.1 l })) $
         assigns ! (bin ! (load ! (from ! (fld ! refl (stop !))) (look_in ! 22 (sub ! 0 refl (whole !)))) (load ! (from ! (stop !)) (look ! 6 refl)) tt) (from ! (stop !)) (init ! 4 refl (tt, tt)) $
         rewrite ! 4 (λ (p : ℕ). ‵ (fat full_share ty_ptr l₁₀ 0 (vptr b p))) (sym (place_is 8 o i)) refl $
         move ! (1 ∷ []) $ fsplit ! $ move ! (1 ∷ []) $ fsplit ! $ move ! (3 ∷ []) $ split ! $ move ! (3 ∷ 0 ∷ []) $
@@ -181,8 +176,8 @@ module _ {M : Type 1} {𝓤 : Ura M} (𝓛 : Logic 𝓤) (mem : Memory → SProp
       (λ κs qs bounds a g are. via 𝓤 _ (fst∗ 𝓤 _ (emp 𝓤))
       (walk 𝓛 mem run κs.0 qs.0 a.0.ref_ptr.0 a.0.ref_ptr.1 0 a.0.now a.1.0 a.1.1.0 are.1.0.1 are.1.1.0.1 C Λ are.0.0.1))
 
-group-or-meets : {M : Type 1} {𝓤 : Ura M} (𝓛 : Logic 𝓤) → (mem : Memory → SProp 𝓤) (run : Routine → Fun 𝓤) (𝓣 : Tables 𝓤 𝓛.H)
+group_or_meets : {M : Type 1} {𝓤 : Ura M} (𝓛 : Logic 𝓤) → (mem : Memory → SProp 𝓤) (run : Routine → Fun 𝓤) (𝓣 : Tables 𝓤 𝓛.H)
     → Meets 𝓛 group-or.signature (WpFn 𝓤 𝓛.H 𝓣.C 𝓣.Λ code.function) (group-or.spec 𝓛 mem run)
-group-or-meets {𝓤 = 𝓤} 𝓛 mem run 𝓣 =
+group_or_meets {𝓤 = 𝓤} 𝓛 mem run 𝓣 =
     walk_Meets 𝓛 group-or.ended stayed (Goes-none_slice 𝓛 1 (0 ∷ []) tt (plain (λ _. G.the_row)) yes, (Goes-none 𝓛 1 (λ _. usize) yes (λ κs x f. refl), (Goes-none 𝓛 1 (λ _. usize) yes (λ κs x f. refl), tt)))
     (group-or.clauses 𝓛 mem run) (WpFn 𝓤 𝓛.H 𝓣.C 𝓣.Λ code.function) (WpFn-mono 𝓤 𝓛.H 𝓛.laws 𝓣 code.function) (group-or-walks 𝓛 mem run 𝓣.C 𝓣.Λ)

@@ -1,6 +1,5 @@
 -- `line::put_figure` meets its contract.
 use Rattle.text.proofs.Put.{put_then}
-use borrow.Author.Rules.{rules}
 use Rattle.line.proofs.put_figure.Goals as goal
 
 pub returns-in-Reached : goal.returns-in-Reached

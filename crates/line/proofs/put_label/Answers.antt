@@ -1,6 +1,5 @@
 -- `line::put_label` meets its contract.
 use Rattle.text.proofs.Put.{put_then}
-use borrow.Author.Rules.{rules}
 use Rattle.line.proofs.put_label.Goals as goal
 
 pub returns : goal.returns

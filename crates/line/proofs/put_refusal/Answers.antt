@@ -1,6 +1,5 @@
 -- `line::put_refusal` meets its contract.
 use Rattle.line.proofs.Text.{put_more, put_end}
-use borrow.Author.Rules.{rules}
 use Rattle.line.proofs.put_refusal.Goals as goal
 
 pub returns : goal.returns

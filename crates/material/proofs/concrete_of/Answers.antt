@@ -1,7 +1,6 @@
 -- `material::concrete_of` meets its contract: each column at the row of the grade.
 use Rattle.material.specs.Concrete.{concretes, concrete_of}
 use Rattle.table.proofs.Table.{row_at_place}
-use borrow.Author.Rules.{rules}
 use Rattle.material.proofs.concrete_of.Goals as goal
 
 pub returns : goal.returns

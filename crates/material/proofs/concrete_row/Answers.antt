@@ -1,5 +1,4 @@
 -- `material::concrete_row` meets its contract.
-use borrow.Author.Rules.{rules}
 use Rattle.material.proofs.concrete_row.Goals as goal
 
 pub returns : goal.returns

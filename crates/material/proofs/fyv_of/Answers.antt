@@ -1,7 +1,6 @@
 -- `material::fyv_of` meets its contract: an arm for each row, the last for no row.
 use Rattle.material.specs.Steel.{link_steels, fyv_of}
 use Rattle.table.proofs.Table.{none_cell}
-use borrow.Author.Rules.{rules}
 use Rattle.material.proofs.fyv_of.Goals as goal
 
 pub returns-in-1 : goal.returns-in-1

@@ -4,7 +4,6 @@ use native.Mathlib.Omega.{arith}
 use Rattle.material.specs.Concrete.{concretes}
 use Rattle.table.proofs.Table.{unlisted_place}
 use Rattle.material.proofs.Materials.{grade_between, grade_at}
-use borrow.Author.Rules.{rules}
 use Rattle.material.proofs.grade_row.Goals as goal
 
 pub overflow_sub-result : goal.overflow_sub-result

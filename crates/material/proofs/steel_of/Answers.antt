@@ -1,7 +1,6 @@
 -- `material::steel_of` meets its contract: an arm for each row, the last for no row.
 use borrow.Author.Tests.{ne_eqb}
 use Rattle.material.specs.Steel.{steel_of}
-use borrow.Author.Rules.{rules}
 use Rattle.material.proofs.steel_of.Goals as goal
 
 pub returns-in-1 : goal.returns-in-1

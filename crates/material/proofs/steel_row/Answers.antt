@@ -1,5 +1,4 @@
 -- `material::steel_row` meets its contract.
-use borrow.Author.Rules.{rules}
 use Rattle.material.proofs.steel_row.Goals as goal
 
 pub returns : goal.returns

@@ -1,7 +1,6 @@
 -- `member::effective_depth` meets its contract.
 use mathlib.Core.Path.{ap}
 use Rattle.quantity.specs.declared.Length.{Length}
-use borrow.Author.Rules.{rules}
 use Rattle.member.proofs.effective_depth.Goals as goal
 
 pub returns : goal.returns

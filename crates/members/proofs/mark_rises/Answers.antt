@@ -1,6 +1,5 @@
 -- `members::mark_rises` meets its contract.
 use Rattle.members.specs.Members.{mark_rises}
-use borrow.Author.Rules.{rules}
 use Rattle.members.proofs.mark_rises.Goals as goal
 
 pub returns : goal.returns

@@ -1,5 +1,4 @@
 -- `members::read_member` meets its contract.
-use borrow.Author.Rules.{rules}
 use Rattle.members.proofs.Accepted.{mark_got, kind_got, fields_got, member_taken}
 use Rattle.members.proofs.read_member.Goals as goal
 

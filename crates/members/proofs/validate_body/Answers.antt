@@ -2,7 +2,6 @@
 use mathlib.Core.Path.{sym, ◌∙◌}
 use Rattle.members.proofs.Members.{body_passed}
 use Rattle.field_validator.proofs.Taken.{end_got, taken_fields}
-use borrow.Author.Rules.{rules}
 use Rattle.members.proofs.validate_body.Goals as goal
 
 pub member_verdict-requires : goal.member_verdict-requires

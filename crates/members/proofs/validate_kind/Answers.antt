@@ -4,7 +4,6 @@ use Rattle.field_table.specs.Fields.{known}
 use Rattle.question.specs.declared.Question.TheVariants.{Kind}
 use Rattle.members.specs.Members.{kind_at}
 use Rattle.field_validator.proofs.Checked.{number_refused, number_passes, number_fails}
-use borrow.Author.Rules.{rules}
 use Rattle.members.proofs.validate_kind.Goals as goal
 
 pub returns-in-Refused : goal.returns-in-Refused

@@ -3,7 +3,6 @@ use mathlib.Core.Path.{sym, ◌∙◌}
 use Rattle.members.specs.Members.{mark_rises, mark_at}
 use Rattle.question.specs.declared.Question.TheVariants.{Mark}
 use Rattle.field_validator.proofs.Checked.{number_refused, number_passes, number_fails}
-use borrow.Author.Rules.{rules}
 use Rattle.members.proofs.validate_mark.Goals as goal
 
 pub returns-in-Refused : goal.returns-in-Refused

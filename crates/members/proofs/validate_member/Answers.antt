@@ -2,7 +2,6 @@
 use mathlib.Core.Path.{sym, ap, ◌∙◌}
 use Rattle.members.specs.MembersResult.{marked}
 use Rattle.members.proofs.Members.{mark_refused, kind_refused, member_body_lem}
-use borrow.Author.Rules.{rules}
 use Rattle.members.proofs.validate_member.Goals as goal
 
 pub returns-in-Refused : goal.returns-in-Refused

@@ -1,8 +1,6 @@
 -- `members::validate_members` meets its contract.
-use Prim.Native.Nat.{◌+◌, ◌-◌, ◌≤◌}
-use mathlib.Core.Path.{◌≡◌, refl, sym, ap, ◌∙◌}
+use mathlib.Core.Path.{refl, sym, ap, ◌∙◌}
 use borrow.Author.Rules.{rules}
-use Rattle.members.specs.Members.{members}
 use Rattle.members.specs.MembersResult.{members_end}
 use Rattle.members.proofs.Members.{no_member, member_refused, member_read, read_got, read_no}
 use Rattle.members.proofs.validate_members.Goals as goal

@@ -1,9 +1,7 @@
-use Prim.Native.Nat.{◌+◌, ◌-◌, ◌≤◌}
-use mathlib.Core.Path.{◌≡◌, refl, sym, ap, ◌∙◌}
-use borrow.Author.Rules.{rules}
+use Prim.Native.Nat.{◌+◌, ◌≤◌}
+use mathlib.Core.Path.{◌≡◌}
 use Rattle.members.specs.Members.{members}
 use Rattle.members.specs.MembersResult.{members_end}
-use Rattle.members.proofs.Members.{no_member, member_refused, member_read, read_got, read_no}
 use Rattle.members.proofs.validate_members.Given as goal
 
 abbrev pub invariant-loop-left : goal.invariant-loop-left

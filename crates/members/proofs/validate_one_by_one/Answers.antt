@@ -3,7 +3,6 @@ use mathlib.Core.Path.{sym, ◌∙◌}
 use Rattle.field_validator.proofs.Held.{fields_held}
 use Rattle.field_validator.proofs.Checked.{fields_got, fields_no}
 use Rattle.members.proofs.Members.{body_no, body_passed}
-use borrow.Author.Rules.{rules}
 use Rattle.members.proofs.validate_one_by_one.Goals as goal
 
 pub member_verdict-requires : goal.member_verdict-requires

@@ -2,7 +2,6 @@
 use mathlib.Core.Path.{◌∙◌}
 use borrow.Author.Tests.{le-leb, lt-leb}
 use Rattle.mesh.specs.Checks.{lap_outcome}
-use borrow.Author.Rules.{rules}
 use Rattle.mesh.proofs.check_lap.Goals as goal
 
 pub returns-then-lap-in_millimetres : goal.returns-then-lap-in_millimetres

@@ -2,7 +2,6 @@
 use mathlib.Core.Path.{◌∙◌}
 use borrow.Author.Tests.{le-leb, lt-leb}
 use Rattle.mesh.specs.Checks.{mesh_outcome}
-use borrow.Author.Rules.{rules}
 use Rattle.mesh.proofs.check_mesh.Goals as goal
 
 pub returns-then-in_millimetres : goal.returns-then-in_millimetres

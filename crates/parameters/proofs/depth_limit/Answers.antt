@@ -4,7 +4,6 @@ use native.Mathlib.Omega.{arith}
 use Rattle.quantity.proofs.Product.{product_most}
 use Rattle.parameters.specs.Parameters.{β₁, εcu}
 use Rattle.parameters.proofs.Usable.{limit_to_c50, limit_above_c50}
-use borrow.Author.Rules.{rules}
 use Rattle.parameters.proofs.depth_limit.Goals as goal
 
 pub returns-then-grade-le50 : goal.returns-then-grade-le50

@@ -2,7 +2,6 @@
 use native.Mathlib.Omega.{arith}
 use Rattle.material.proofs.Materials.{usable_steel, grade_between}
 use Rattle.parameters.specs.Parameters.{stress_factor, web_factor, parameters_of}
-use borrow.Author.Rules.{rules}
 use Rattle.parameters.proofs.parameters_of.Goals as goal
 
 pub overflow_sub-result : goal.overflow_sub-result

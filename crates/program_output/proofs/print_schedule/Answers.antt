@@ -1,12 +1,6 @@
 -- `program_output::print_schedule` meets its contract.
 use native.Mathlib.Omega.{arith}
 use Rattle.program_output.proofs.ProgramOutput.{was_written, was_refused}
-use borrow.Author.Rules.{rules}
-use Rattle.program_output.proofs.print_schedule.Reads as reads
-use Rattle.program_output.proofs.print_schedule.Lts as lts
-use Rattle.line.proofs.put_refusal.Reads as put-refusal-reads
-use Rattle.question.proofs.number_of.Reads as number-of-reads
-use Rattle.report.proofs.report.Reads as report-reads
 use Rattle.program_output.proofs.print_schedule.Goals as goal
 
 pub returns-in-Written : goal.returns-in-Written

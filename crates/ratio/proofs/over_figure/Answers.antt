@@ -1,6 +1,5 @@
 -- `ratio::over_figure` meets its contract.
 use Rattle.ratio.specs.Ratio.{over_figure}
-use borrow.Author.Rules.{rules}
 use Rattle.ratio.proofs.over_figure.Goals as goal
 
 pub ratio_of-requires : goal.ratio_of-requires

@@ -1,6 +1,5 @@
 -- `ratio::over_limit` meets its contract.
 use Rattle.ratio.specs.Ratio.{over_limit}
-use borrow.Author.Rules.{rules}
 use Rattle.ratio.proofs.over_limit.Goals as goal
 
 pub ratio_of-requires : goal.ratio_of-requires

@@ -1,7 +1,6 @@
 -- `ratio::ratio_of` meets its contract.
 use borrow.Author.Tests.{eq-eqb, ne_eqb}
 use Rattle.ratio.specs.Ratio.{ratio}
-use borrow.Author.Rules.{rules}
 use Rattle.ratio.proofs.ratio_of.Goals as goal
 
 pub returns-then-b-eq0 : goal.returns-then-b-eq0

@@ -1,6 +1,5 @@
 -- `reinforcement::beam_bars` meets its contract.
 use Rattle.reinforcement.specs.Reinforcement.{beam_bars}
-use borrow.Author.Rules.{rules}
 use Rattle.reinforcement.proofs.beam_bars.Goals as goal
 
 pub returns : goal.returns

@@ -1,6 +1,5 @@
 -- `reinforcement::column_bars` meets its contract.
 use Rattle.reinforcement.specs.Reinforcement.{column_bars}
-use borrow.Author.Rules.{rules}
 use Rattle.reinforcement.proofs.column_bars.Goals as goal
 
 pub returns : goal.returns

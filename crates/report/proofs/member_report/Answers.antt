@@ -3,7 +3,6 @@ use mathlib.Core.Path.{sym, ◌∙◌}
 use Rattle.verdict.proofs.Accepted.{accepted_built}
 use Rattle.report.proofs.ReportClaim.{member_reported, printed_member, member_refused}
 use Rattle.report_text.proofs.Length.{line_fits}
-use borrow.Author.Rules.{rules}
 use Rattle.report.proofs.member_report.Goals as goal
 
 pub check_member-requires : goal.check_member-requires

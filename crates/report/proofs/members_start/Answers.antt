@@ -1,7 +1,6 @@
 -- `report::members_start` meets its contract.
 use mathlib.Core.Path.{sym, ap, ◌∙◌}
 use Rattle.report.specs.Report.{after_number}
-use borrow.Author.Rules.{rules}
 use Rattle.report.proofs.members_start.Goals as goal
 
 pub returns-in-Value : goal.returns-in-Value

@@ -1,7 +1,6 @@
 -- `report::report` meets its contract.
 use mathlib.Core.Path.{sym, ◌∙◌}
 use Rattle.report.proofs.ReportClaim.{refused, validated_no, validated_accepted, validated_yes}
-use borrow.Author.Rules.{rules}
 use Rattle.report.proofs.report.Goals as goal
 
 pub print_report-requires : goal.print_report-requires

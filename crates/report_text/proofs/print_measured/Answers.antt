@@ -1,7 +1,6 @@
 -- `report_text::print_measured` meets its contract.
 use native.Mathlib.Omega.{arith}
 use Rattle.text_answer.proofs.Printed.{printed, unprinted}
-use borrow.Author.Rules.{rules}
 use Rattle.report_text.proofs.print_measured.Goals as goal
 
 pub returns-then-out-n : goal.returns-then-out-n

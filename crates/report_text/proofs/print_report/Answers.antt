@@ -2,7 +2,6 @@
 use native.Mathlib.Omega.{arith}
 use Rattle.text_answer.proofs.Printed.{printed_whole}
 use Rattle.report_text.proofs.Length.{report_fits}
-use borrow.Author.Rules.{rules}
 use Rattle.report_text.proofs.print_report.Goals as goal
 
 pub returns-then-count-out : goal.returns-then-count-out

@@ -1,15 +1,9 @@
 -- `report_text::put_members` meets its contract. The loop's invariant: whoever puts the lines that are left puts all of them from the start.
-use Prim.Native.Nat.{ℕ, ◌≤◌}
-use mathlib.Core.Path.{◌≡◌, refl, ◌∙◌}
-use mathlib.Core.List.{List}
+use mathlib.Core.Path.{refl, ◌∙◌}
 use native.Mathlib.Omega.{arith}
-use borrow.Author.Rules.{rules}
-use lib.ListN.{length}
-use Rattle.text.specs.Put.{Put, last_position}
 use Rattle.text.proofs.Put.{put_none, put_then, put_length, put_bounds}
 use Rattle.members.specs.MembersResult.{headed}
 use Rattle.members.proofs.Accepted.{member_was}
-use Rattle.report_text.specs.ReportText.{AcceptedFrom, lines_from}
 use Rattle.report_text.proofs.ReportText.{lines_none, first_accepted, others_accepted, lines_more, put_member}
 use Rattle.report_text.proofs.put_members.Goals as goal
 

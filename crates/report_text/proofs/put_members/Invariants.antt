@@ -1,15 +1,9 @@
 use Prim.Native.Nat.{ℕ, ◌≤◌}
-use mathlib.Core.Path.{◌≡◌, refl, ◌∙◌}
+use mathlib.Core.Path.{◌≡◌}
 use mathlib.Core.List.{List}
-use native.Mathlib.Omega.{arith}
-use borrow.Author.Rules.{rules}
 use lib.ListN.{length}
 use Rattle.text.specs.Put.{Put, last_position}
-use Rattle.text.proofs.Put.{put_none, put_then, put_length, put_bounds}
-use Rattle.members.specs.MembersResult.{headed}
-use Rattle.members.proofs.Accepted.{member_was}
 use Rattle.report_text.specs.ReportText.{AcceptedFrom, lines_from}
-use Rattle.report_text.proofs.ReportText.{lines_none, first_accepted, others_accepted, lines_more, put_member}
 use Rattle.report_text.proofs.put_members.Given as goal
 
 abbrev pub invariant-loop-left : goal.invariant-loop-left

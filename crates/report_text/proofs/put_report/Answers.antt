@@ -1,6 +1,5 @@
 -- `report_text::put_report` meets its contract.
 use Rattle.text.proofs.Put.{put_then}
-use borrow.Author.Rules.{rules}
 use Rattle.report_text.proofs.put_report.Goals as goal
 
 pub returns : goal.returns

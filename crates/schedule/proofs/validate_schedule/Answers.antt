@@ -2,7 +2,6 @@
 use mathlib.Core.Path.{sym, ap, ◌∙◌}
 use Rattle.members.specs.MembersResult.{members_end_of}
 use Rattle.schedule.proofs.Answers.{too_long, no_count, too_many, member_no, bytes_left, all_read}
-use borrow.Author.Rules.{rules}
 use Rattle.schedule.proofs.validate_schedule.Goals as goal
 
 pub returns-then-src-gt60000 : goal.returns-then-src-gt60000

@@ -2,9 +2,6 @@ use Prim.Native.Nat.{◌-◌}
 use native.Mathlib.Omega.{arith}
 use Rattle.quantity.proofs.Product.{product_most}
 use Rattle.section.specs.Section.{section_of}
-use borrow.Author.Rules.{rules}
-use Rattle.section.proofs.flange_area.Reads as reads
-use Rattle.section.proofs.flange_area.Lts as lts
 use Rattle.section.proofs.flange_area.Goals as goal
 
 pub overflow_mul-result : goal.overflow_mul-result

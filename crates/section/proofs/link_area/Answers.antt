@@ -2,10 +2,6 @@ use native.Mathlib.Omega.{arith}
 use Rattle.quantity.proofs.Product.{product_most}
 use Rattle.code_tables.proofs.Bars.{area_most}
 use Rattle.section.specs.Section.{section_of}
-use borrow.Author.Rules.{rules}
-use Rattle.section.proofs.link_area.Reads as reads
-use Rattle.section.proofs.link_area.Lts as lts
-use Rattle.code_tables.proofs.area_of.Reads as area-of-reads
 use Rattle.section.proofs.link_area.Goals as goal
 
 pub overflow_mul-result : goal.overflow_mul-result

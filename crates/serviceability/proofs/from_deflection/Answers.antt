@@ -1,7 +1,6 @@
 -- `serviceability::from_deflection` meets its contract.
 use Rattle.deflection.proofs.Bounds.{deflection_most_lem}
 use Rattle.serviceability.specs.Checks.{from_deflection}
-use borrow.Author.Rules.{rules}
 use Rattle.serviceability.proofs.from_deflection.Goals as goal
 
 pub deflection_holds-requires : goal.deflection_holds-requires

@@ -1,7 +1,6 @@
 -- `serviceability::from_stress` meets its contract.
 use mathlib.Core.Path.{sym, ◌∙◌}
 use Rattle.serviceability.specs.Checks.{from_stress}
-use borrow.Author.Rules.{rules}
 use Rattle.serviceability.proofs.from_stress.Goals as goal
 
 pub stress_holds-requires : goal.stress_holds-requires

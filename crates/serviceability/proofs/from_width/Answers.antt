@@ -3,7 +3,6 @@ use Prim.Native.Nat.{◌≤◌}
 use Rattle.cracking.specs.Bounds.{stress_most}
 use Rattle.cracking.proofs.Safe.{σ_most, q_most}
 use Rattle.serviceability.proofs.Chain.{width_holds, width_fails}
-use borrow.Author.Rules.{rules}
 use Rattle.serviceability.proofs.from_width.Goals as goal
 use Rattle.serviceability.proofs.from_width.Goals.{After-mean_stress-mean, After-steel_stress-stress}
 

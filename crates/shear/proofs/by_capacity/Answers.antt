@@ -1,5 +1,4 @@
 -- `shear::by_capacity` meets its contract.
-use borrow.Author.Rules.{rules}
 use borrow.Author.Tests.{le-leb, lt-leb}
 use Rattle.shear.proofs.by_capacity.Goals as goal
 

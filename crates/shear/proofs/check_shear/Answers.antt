@@ -1,6 +1,5 @@
 -- `shear::check_shear` meets its contract.
 use mathlib.Core.Path.{sym, ◌∙◌}
-use borrow.Author.Rules.{rules}
 use Rattle.web_crushing.proofs.Tests.{web_reflects}
 use Rattle.shear.specs.ShearCheck.{shear_result}
 use Rattle.shear.proofs.ShearCheck.{checked}

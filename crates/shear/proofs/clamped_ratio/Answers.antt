@@ -1,5 +1,4 @@
 -- `shear::clamped_ratio` meets its contract.
-use borrow.Author.Rules.{rules}
 use Rattle.shear.proofs.clamped_ratio.Goals as goal
 
 pub returns : goal.returns

@@ -1,6 +1,5 @@
 -- `shear::concrete_part` meets its contract.
 use native.Mathlib.Omega.{arith}
-use borrow.Author.Rules.{rules}
 use Rattle.shear.proofs.Bounds.{sizes}
 use Rattle.shear.proofs.concrete_part.Goals as goal
 

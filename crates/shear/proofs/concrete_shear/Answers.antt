@@ -1,5 +1,4 @@
 -- `shear::concrete_shear` meets its contract.
-use borrow.Author.Rules.{rules}
 use Rattle.shear.specs.Steps.{concrete_shear}
 use Rattle.shear.proofs.concrete_shear.Goals as goal
 

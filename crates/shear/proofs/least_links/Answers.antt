@@ -1,6 +1,5 @@
 -- `shear::least_links` meets its contract.
 use mathlib.Core.Path.{sym, ◌∙◌}
-use borrow.Author.Rules.{rules}
 use Rattle.shear.specs.Steps.{least_links}
 use Rattle.shear.proofs.least_links.Goals as goal
 

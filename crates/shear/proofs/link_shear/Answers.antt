@@ -1,6 +1,5 @@
 -- `shear::link_shear` meets its contract.
 use native.Mathlib.Omega.{arith}
-use borrow.Author.Rules.{rules}
 use Rattle.shear.specs.Steps.{link_shear}
 use Rattle.shear.proofs.Bounds.{sizes}
 use Rattle.shear.proofs.link_shear.Goals as goal

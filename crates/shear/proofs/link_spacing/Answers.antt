@@ -1,5 +1,4 @@
 -- `shear::link_spacing` meets its contract.
-use borrow.Author.Rules.{rules}
 use Rattle.shear.specs.Steps.{link_spacing}
 use Rattle.shear.proofs.link_spacing.Goals as goal
 

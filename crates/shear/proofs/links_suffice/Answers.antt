@@ -1,6 +1,5 @@
 -- `shear::links_suffice` meets its contract.
 use native.Mathlib.Omega.{arith}
-use borrow.Author.Rules.{rules}
 use Rattle.shear.proofs.Bounds.{sizes}
 use Rattle.shear.proofs.links_suffice.Goals as goal
 

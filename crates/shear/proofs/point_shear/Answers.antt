@@ -1,6 +1,5 @@
 -- `shear::point_shear` meets its contract.
 use native.Mathlib.Omega.{arith}
-use borrow.Author.Rules.{rules}
 use Rattle.shear.proofs.Bounds.{sizes, ratio_clamped}
 use Rattle.shear.proofs.point_shear.Goals as goal
 

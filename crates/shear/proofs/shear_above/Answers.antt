@@ -1,5 +1,4 @@
 -- `shear::shear_above` meets its contract.
-use borrow.Author.Rules.{rules}
 use Rattle.shear.specs.Steps.{shear_above}
 use Rattle.shear.proofs.shear_above.Goals as goal
 

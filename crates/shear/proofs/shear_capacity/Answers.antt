@@ -1,6 +1,5 @@
 -- `shear::shear_capacity` meets its contract.
 use native.Mathlib.Omega.{arith}
-use borrow.Author.Rules.{rules}
 use Rattle.shear.specs.Steps.{shear_capacity}
 use Rattle.shear.proofs.Bounds.{concrete_most, links_most}
 use Rattle.shear.proofs.shear_capacity.Goals as goal

@@ -2,7 +2,6 @@
 use native.Mathlib.Omega.{arith}
 use Rattle.stability.specs.Steps.{interpolated}
 use Rattle.stability.proofs.Interval.{Inside, inside, Falling, falling}
-use borrow.Author.Rules.{rules}
 use Rattle.stability.proofs.interpolate.Goals as goal
 use Rattle.stability.proofs.interpolate.Goals.{After-point_at-q, Start}
 

@@ -1,6 +1,5 @@
 -- `stability::interval_of` meets its contract.
 use Rattle.stability.specs.Steps.{interval}
-use borrow.Author.Rules.{rules}
 use Rattle.stability.proofs.interval_of.Goals as goal
 
 pub returns : goal.returns

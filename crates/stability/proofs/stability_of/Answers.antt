@@ -1,7 +1,6 @@
 -- `stability::stability_of` meets its contract.
 use borrow.Author.Tests.{le-leb, lt-leb}
 use Rattle.stability.specs.Steps.{stability}
-use borrow.Author.Rules.{rules}
 use Rattle.stability.proofs.stability_of.Goals as goal
 
 pub returns-then-span-b : goal.returns-then-span-b

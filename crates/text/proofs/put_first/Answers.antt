@@ -1,13 +1,11 @@
 -- `text::put_first` meets its contract: after i turns the first i bytes are put.
-use Prim.Native.Nat.{ℕ, ◌-◌, ◌<◌, ◌≤◌, min}
+use Prim.Native.Nat.{ℕ, ◌<◌, min}
 use mathlib.Core.Path.{◌≡◌, sym, ◌∙◌}
 use mathlib.Core.List.{List}
 use native.Mathlib.Numerals.{add-one}
 use native.Mathlib.Omega.{arith, min_cases}
-use borrow.Author.Rules.{rules}
 use lib.ListN.{length, take}
 use lib.Seq.{take-suc, take-length, take_all}
-use Rattle.text.specs.Put.{Put}
 use Rattle.text.proofs.Put.{put_none, put_then, put_length}
 use Rattle.text.proofs.put_first.Goals as goal
 

@@ -1,7 +1,6 @@
 -- `text_answer::print_line` meets its contract.
 use native.Mathlib.Nat.{le_trans}
 use Rattle.text_answer.proofs.Printed.{printed_whole}
-use borrow.Author.Rules.{rules}
 use Rattle.text_answer.proofs.print_line.Goals as goal
 
 pub returns-then-out-ge55 : goal.returns-then-out-ge55

@@ -1,7 +1,6 @@
 -- `text_answer::print_measured_line` meets its contract.
 use native.Mathlib.Omega.{arith}
 use Rattle.text_answer.proofs.Printed.{printed, unprinted}
-use borrow.Author.Rules.{rules}
 use Rattle.text_answer.proofs.print_measured_line.Goals as goal
 
 pub returns-then-out-size : goal.returns-then-out-size

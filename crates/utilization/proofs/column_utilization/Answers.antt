@@ -1,6 +1,5 @@
 -- `utilization::column_utilization` meets its contract.
 use Rattle.utilization.specs.Utilization.{column_utilization}
-use borrow.Author.Rules.{rules}
 use Rattle.utilization.proofs.column_utilization.Goals as goal
 
 pub returns : goal.returns

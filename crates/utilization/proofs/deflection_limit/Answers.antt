@@ -1,7 +1,6 @@
 -- `utilization::deflection_limit` meets its contract.
 use Rattle.deflection.proofs.Bounds.{divisor_between}
 use Rattle.utilization.specs.Utilization.{deflection_limit}
-use borrow.Author.Rules.{rules}
 use Rattle.utilization.proofs.deflection_limit.Goals as goal
 
 pub div_down-requires : goal.div_down-requires

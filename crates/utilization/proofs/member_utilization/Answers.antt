@@ -1,7 +1,6 @@
 -- `utilization::member_utilization` meets its contract.
 use Rattle.checks.proofs.Safe.{as_beam, as_column, as_mesh}
 use Rattle.utilization.proofs.Utilized.{of_beam, of_column, of_mesh}
-use borrow.Author.Rules.{rules}
 use Rattle.utilization.proofs.member_utilization.Goals as goal
 
 pub beam_utilization-requires : goal.beam_utilization-requires

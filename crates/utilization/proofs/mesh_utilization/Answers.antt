@@ -1,6 +1,5 @@
 -- `utilization::mesh_utilization` meets its contract.
 use Rattle.utilization.specs.Utilization.{mesh_utilization}
-use borrow.Author.Rules.{rules}
 use Rattle.utilization.proofs.mesh_utilization.Goals as goal
 
 pub returns : goal.returns

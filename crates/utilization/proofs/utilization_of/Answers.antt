@@ -2,7 +2,6 @@
 use mathlib.Core.Path.{sym, refl, ◌∙◌}
 use Rattle.verdict.proofs.Accepted.{accepted_built}
 use Rattle.utilization.proofs.Utilized.{accepted_exact, given, refused}
-use borrow.Author.Rules.{rules}
 use Rattle.utilization.proofs.utilization_of.Goals as goal
 
 pub check_member-o-requires : goal.check_member-o-requires

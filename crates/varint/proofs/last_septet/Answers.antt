@@ -1,6 +1,5 @@
 -- `varint::last_septet` meets its contract.
 use Prim.Native.Nat.{◌≤◌, ◌<◌}
-use borrow.Author.Rules.{rules}
 use borrow.Author.Tests.{ne_eqb, lt-ltb, le-ltb}
 use native.Mathlib.Omega.{arith}
 use Rattle.varint.specs.Varint.{last_septet}

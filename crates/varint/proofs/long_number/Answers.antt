@@ -1,10 +1,9 @@
 -- `varint::long_number` meets its contract: the answer from the third septet is the answer from here, the weight is that of the septets passed,
 -- and the value so far is below it.
-use mathlib.Core.Path.{◌≡◌, refl, sym, ◌∙◌}
+use mathlib.Core.Path.{refl, sym, ◌∙◌}
 use Prim.Native.Nat.{◌+◌, ◌-◌, ◌*◌, ◌^◌, ◌≤◌, ◌<◌}
 use native.Mathlib.Omega.{arith}
 use borrow.Author.Rules.{rules}
-use Rattle.varint.specs.Varint.{septets_at}
 use Rattle.varint.proofs.Septets.{file_ends, last_septet_at, septet_follows, none_left, weight, weight_next, below}
 use Rattle.varint.proofs.long_number.Goals as goal
 use Rattle.varint.proofs.long_number.Goals.{After-widen-b, Else-b-lt128}

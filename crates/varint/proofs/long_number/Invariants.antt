@@ -1,9 +1,6 @@
-use mathlib.Core.Path.{◌≡◌, refl, sym, ◌∙◌}
-use Prim.Native.Nat.{◌+◌, ◌-◌, ◌*◌, ◌^◌, ◌≤◌, ◌<◌}
-use native.Mathlib.Omega.{arith}
-use borrow.Author.Rules.{rules}
+use mathlib.Core.Path.{◌≡◌}
+use Prim.Native.Nat.{◌-◌, ◌^◌, ◌≤◌, ◌<◌}
 use Rattle.varint.specs.Varint.{septets_at}
-use Rattle.varint.proofs.Septets.{file_ends, last_septet_at, septet_follows, none_left, weight, weight_next, below}
 use Rattle.varint.proofs.long_number.Given as goal
 
 abbrev pub invariant-loop-left : goal.invariant-loop-left

@@ -2,7 +2,6 @@
 use mathlib.Core.Path.{sym, ◌∙◌}
 use Prim.Native.Nat.{◌+◌, ◌<◌}
 use native.Mathlib.Omega.{arith}
-use borrow.Author.Rules.{rules}
 use Rattle.varint.specs.Varint.{number_at}
 use Rattle.varint.proofs.Septets.{file_ends, only_septet, last_septet_at, from_second, second_last, from_third}
 use Rattle.varint.proofs.number_at.Goals as goal
@@ -12,8 +11,8 @@ use Rattle.varint.proofs.number_at.Goals.{After-widen-first, After-widen-second}
 first_byte : (c : After-widen-first) → c.widen-first.result < 256
 first_byte c = omega (arith, c.widen-first.ensures, c.shared_slice_known-2-1.given c.args.at)
 
-second-byte : (c : After-widen-second) → c.widen-second.result < 256
-second-byte c =
+second_byte : (c : After-widen-second) → c.widen-second.result < 256
+second_byte c =
     let a = c.args in
     omega (arith, c.widen-second.ensures, c.shared_slice_known-3-1.given (a.at + 1))
 
@@ -39,13 +38,13 @@ returns-then-second-lt128 c =
     ∙ sym (second_last _ _ _ c.widen-first.ensures c.if-src-at.false c.if-first-lt128.false _ c.widen-second.ensures c.if-src-at-2.false c.if-second-lt128.true)
 
 pub overflow_mul-second : goal.overflow_mul-second
-overflow_mul-second c = omega (arith, second-byte (goal.at.overflow_mul-second c).After-widen-second)
+overflow_mul-second c = omega (arith, second_byte (goal.at.overflow_mul-second c).After-widen-second)
 
 pub overflow_add-first : goal.overflow_add-first
-overflow_add-first c = omega (arith, first_byte (goal.at.overflow_add-first c).After-widen-first, second-byte (goal.at.overflow_add-first c).After-widen-second)
+overflow_add-first c = omega (arith, first_byte (goal.at.overflow_add-first c).After-widen-first, second_byte (goal.at.overflow_add-first c).After-widen-second)
 
 pub long_number-requires : goal.long_number-requires
-long_number-requires c = omega (arith, first_byte (goal.at.long_number-requires c).After-widen-first, second-byte (goal.at.long_number-requires c).After-widen-second)
+long_number-requires c = omega (arith, first_byte (goal.at.long_number-requires c).After-widen-first, second_byte (goal.at.long_number-requires c).After-widen-second)
 
 pub returns : goal.returns
 returns c =

@@ -1,7 +1,6 @@
 -- `verdict::beam_verdict` meets its contract.
 use Rattle.verdict.specs.Verdict.{beam_verdict}
 use Rattle.field_layout.proofs.Held.{beam_in_range_of}
-use borrow.Author.Rules.{rules}
 use Rattle.verdict.proofs.beam_verdict.Goals as goal
 
 pub beam_consistent-consistent-requires : goal.beam_consistent-consistent-requires

@@ -1,7 +1,6 @@
 -- `verdict::built_verdict` meets its contract.
 use mathlib.Core.Path.{sym, ◌∙◌}
 use Rattle.verdict.specs.Verdict.{built_verdict}
-use borrow.Author.Rules.{rules}
 use Rattle.verdict.proofs.built_verdict.Goals as goal
 
 pub returns-then-is_known : goal.returns-then-is_known

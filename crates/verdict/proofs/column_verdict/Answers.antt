@@ -1,7 +1,6 @@
 -- `verdict::column_verdict` meets its contract.
 use Rattle.verdict.specs.Verdict.{column_verdict}
 use Rattle.field_layout.proofs.Held.{column_groups_of}
-use borrow.Author.Rules.{rules}
 use Rattle.verdict.proofs.column_verdict.Goals as goal
 
 pub column_bars-bars-requires : goal.column_bars-bars-requires

@@ -1,7 +1,6 @@
 -- `verdict::fields_verdict` meets its contract.
 use mathlib.Core.Path.{sym, ◌∙◌}
 use Rattle.verdict.specs.Verdict.{fields_verdict}
-use borrow.Author.Rules.{rules}
 use Rattle.verdict.proofs.fields_verdict.Goals as goal
 
 pub member_verdict-requires : goal.member_verdict-requires

@@ -1,6 +1,5 @@
 -- `verdict::mark_in_range` meets its contract.
 use Rattle.verdict.specs.Verdict.{mark_in_range}
-use borrow.Author.Rules.{rules}
 use Rattle.verdict.proofs.mark_in_range.Goals as goal
 
 pub returns : goal.returns

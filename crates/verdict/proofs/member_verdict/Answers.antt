@@ -3,7 +3,6 @@ use Rattle.field_table.specs.Fields.{fields_of}
 use Rattle.field_layout.specs.Layout.{member_at}
 use Rattle.field_layout.proofs.Held.{beam_fields_held}
 use Rattle.verdict.specs.Verdict.{member_verdict}
-use borrow.Author.Rules.{rules}
 use Rattle.verdict.proofs.member_verdict.Goals as goal
 
 pub beam_verdict-requires : goal.beam_verdict-requires

@@ -1,6 +1,5 @@
 -- `verdict::mesh_verdict` meets its contract.
 use Rattle.verdict.specs.Verdict.{mesh_verdict}
-use borrow.Author.Rules.{rules}
 use Rattle.verdict.proofs.mesh_verdict.Goals as goal
 
 pub returns : goal.returns

@@ -1,5 +1,4 @@
 -- `web_crushing::scaled_width` meets its contract.
-use borrow.Author.Rules.{rules}
 use Rattle.web_crushing.proofs.scaled_width.Goals as goal
 
 pub returns : goal.returns

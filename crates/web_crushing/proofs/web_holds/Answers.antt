@@ -1,6 +1,5 @@
 -- `web_crushing::web_holds` meets its contract.
 use native.Mathlib.Omega.{arith}
-use borrow.Author.Rules.{rules}
 use Rattle.web_crushing.specs.Steps.{web_holds}
 use Rattle.web_crushing.proofs.Bounds.{sizes}
 use Rattle.web_crushing.proofs.web_holds.Goals as goal

@@ -1,14 +1,7 @@
 -- `writer::put_records` meets its contract. The loop's invariant: whoever puts the records that are left puts all of them from the start.
-use Prim.Native.Nat.{ℕ, ◌+◌, ◌*◌, ◌≤◌}
-use mathlib.Core.Path.{◌≡◌, refl, ◌∙◌}
-use mathlib.Core.List.{List}
+use mathlib.Core.Path.{refl, ◌∙◌}
 use native.Mathlib.Omega.{arith}
-use borrow.Author.Rules.{rules}
-use lib.ListN.{length}
-use Rattle.text.specs.Put.{Put, last_position}
 use Rattle.text.proofs.Put.{put_none, put_then, put_length, put_bounds}
-use Rattle.held_schedule.specs.HeldSchedule.{record_words, records_from}
-use Rattle.round_trip.specs.RecordBytes.{records_bytes, AllInRange}
 use Rattle.writer.proofs.Records.{records_none, first_in_range, others_in_range, records_more, read_in_range, put_record}
 use Rattle.writer.proofs.put_records.Goals as goal
 

@@ -1,5 +1,4 @@
 -- `writer::put_schedule` meets its contract.
-use borrow.Author.Rules.{rules}
 use Rattle.text.proofs.Put.{put_then}
 use Rattle.writer.proofs.put_schedule.Goals as goal
 

@@ -1,6 +1,5 @@
 -- `writer::write_measured` meets its contract.
 use native.Mathlib.Omega.{arith}
-use borrow.Author.Rules.{rules}
 use Rattle.text_answer.proofs.Printed.{printed, unprinted}
 use Rattle.writer.proofs.write_measured.Goals as goal
 

@@ -1,5 +1,4 @@
 -- `writer::write_records` meets its contract.
-use borrow.Author.Rules.{rules}
 use Rattle.text_answer.proofs.Printed.{printed_whole}
 use Rattle.writer.proofs.Written.{records_fit}
 use Rattle.writer.proofs.write_records.Goals as goal

@@ -1,6 +1,5 @@
 -- `writer::write_schedule` meets its contract.
 use mathlib.Core.Path.{sym, ◌∙◌}
-use borrow.Author.Rules.{rules}
 use Rattle.report.proofs.ReportClaim.{validated_no}
 use Rattle.writer.proofs.Written.{refused, validated_ready, validated_yes}
 use Rattle.writer.proofs.write_schedule.Goals as goal
