@@ -1,7 +1,6 @@
 -- The anchorage of a mesh without rounding: 000, 5.2.5.
 -- Lengths are exact fractions of a millimetre.
-use Rattle.std.specs.Prelude.{ℕ, ◌*◌, ◌||◌, eqb}
-use Rattle.quantity.specs.Choice.{if◌then◌else◌}
+use Rattle.std.specs.Prelude.{ℕ, ◌*◌, ◌||◌, eqb, if◌then◌else◌}
 use Rattle.quantity.specs.Fraction.{Frac, ◌//◌, whole, ◌⊗◌, larger}
 use Rattle.code_tables.specs.Mesh.{multiple}
 use Rattle.member.specs.Member.{Mesh}

@@ -1,7 +1,6 @@
 -- The anchorage of a ribbed welded mesh (document 01, "Mesh."; 000, 5.2.5).
 -- A factor in tenths or hundredths makes the unit of length as much smaller, so that lengths are whole and exact up to the one `up`.
-use Rattle.std.specs.Prelude.{ℕ, ◌*◌, max, ◌||◌, eqb}
-use Rattle.quantity.specs.Choice.{if◌then◌else◌}
+use Rattle.std.specs.Prelude.{ℕ, ◌*◌, max, ◌||◌, eqb, if◌then◌else◌}
 use Rattle.quantity.specs.Rounding.{up}
 use Rattle.code_tables.specs.Mesh.{multiple}
 use Rattle.member.specs.Member.{Mesh}

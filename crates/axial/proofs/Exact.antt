@@ -3,7 +3,7 @@ use Prim.Native.Nat.{ℕ, ◌+◌, ◌-◌, ◌*◌, ◌<◌}
 use mathlib.Core.Bool.{Bool, true, false}
 use native.Mathlib.Omega.{arith}
 use lib.Dec.{ltb}
-use Rattle.quantity.specs.Choice.{if◌then◌else◌}
+use Rattle.std.specs.Prelude.{if◌then◌else◌}
 use Rattle.quantity.specs.Fraction.{◌//◌, whole, ◌⊕◌, ◌⊖◌, ◌⊗◌}
 use Rattle.quantity.specs.Unit.{in_units, in_tenths, exact_stress}
 use Rattle.quantity.proofs.Rounding.{expand}

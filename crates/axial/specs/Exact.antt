@@ -1,6 +1,5 @@
 -- The axial capacity of a column without rounding: 000, 4.2.4. An exact fraction of N.
-use Rattle.std.specs.Prelude.{◌*◌, ltb}
-use Rattle.quantity.specs.Choice.{if◌then◌else◌}
+use Rattle.std.specs.Prelude.{◌*◌, ltb, if◌then◌else◌}
 use Rattle.quantity.specs.Fraction.{Frac, ◌//◌, whole, ◌⊕◌, ◌⊖◌, ◌⊗◌}
 use Rattle.quantity.specs.Unit.{exact_stress}
 use Rattle.material.specs.declared.Concrete.{Concrete}

@@ -1,6 +1,5 @@
 -- The axial capacity of a tied rectangular column (document 01, "Column."; 000, 4.2.4), and the checks that it rests on: 5.6.1 and 4.2.4s.
-use Rattle.std.specs.Prelude.{ℕ, ◌+◌, ◌-◌, ◌*◌, Bool, leb, ltb}
-use Rattle.quantity.specs.Choice.{if◌then◌else◌}
+use Rattle.std.specs.Prelude.{ℕ, ◌+◌, ◌-◌, ◌*◌, Bool, leb, ltb, if◌then◌else◌}
 use Rattle.quantity.specs.Rounding.{down}
 use Rattle.quantity.specs.Unit.{in_units, in_tenths}
 use Rattle.material.specs.declared.Concrete.{Concrete}

@@ -1,7 +1,6 @@
 -- The checks of a beam in document 01's order, with 6.3.1v where document 02, wish 6, puts it, up to the first that fails.
 -- A figure is worked out when its check is reached.
-use Rattle.std.specs.Prelude.{ℕ, leb}
-use Rattle.quantity.specs.Choice.{if◌then◌else◌}
+use Rattle.std.specs.Prelude.{ℕ, leb, if◌then◌else◌}
 use Rattle.outcome.specs.declared.Check.TheVariants.{LeastSteel, CompressionDepth, Bending, CoupleBending, WebCrushing, Shear, LinkSpacing, LeastLinks}
 use Rattle.outcome.specs.declared.Outcome.{Outcome}
 use Rattle.outcome.specs.Outcome.{no_figure, one_figure, two_figures}

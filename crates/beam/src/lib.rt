@@ -1,13 +1,12 @@
 // The checks of a beam.
 #![tactic(auto)]
 
-ghost use Rattle.std.specs.Prelude.{◌≡◌, true, ◌*◌, ◌≤◌};
+ghost use Rattle.std.specs.Prelude.{◌≡◌, true, ◌*◌, ◌≤◌, if◌then◌else◌};
 ghost use Rattle.member.specs.Member.{beam_of};
 ghost use Rattle.member.specs.Accepted.{AcceptedBeam};
 ghost use Rattle.section.specs.Section.{G, S};
 ghost use Rattle.section.specs.Bounded.{Bounded};
 ghost use Rattle.bending.specs.Steps.{compression_depth};
-ghost use Rattle.quantity.specs.Choice.{if◌then◌else◌};
 ghost use Rattle.beam.specs.Checks.{from_least_links, from_spacing, from_shear, from_bending, from_depth, section_outcome, beam_outcome};
 
 use bending::{bending_capacity, compression_depth, compression_yields, least_steel};

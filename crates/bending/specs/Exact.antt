@@ -1,7 +1,6 @@
 -- The clauses of bending without rounding: 6.3.1, 4.2.2-3, 4.2.2 and 4.2.3.
 -- Forces in N, lengths in mm, stresses in N/mm², moments in N·m.
-use Rattle.std.specs.Prelude.{◌-◌, ◌*◌, ◌≤◌, Bool, ◌||◌, leb, eqb}
-use Rattle.quantity.specs.Choice.{if◌then◌else◌}
+use Rattle.std.specs.Prelude.{◌-◌, ◌*◌, ◌≤◌, Bool, ◌||◌, leb, eqb, if◌then◌else◌}
 use Rattle.quantity.specs.Fraction.{Frac, ◌//◌, whole, ◌⊕◌, ◌⊖◌, ◌⊗◌, ◌⊘◌, ◌≼◌}
 use Rattle.quantity.specs.Unit.{exact_stress}
 use Rattle.section.specs.declared.Section.{Section}

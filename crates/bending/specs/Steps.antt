@@ -1,7 +1,6 @@
 -- Document 01's steps for a beam in bending: 6.3.1, 4.2.2-3, 4.2.2 and 4.2.3; with α1 and ξb by document 02, wish 7.
 -- Forces are in tenths of N.
-use Rattle.std.specs.Prelude.{ℕ, ◌+◌, ◌-◌, ◌*◌, Bool, ◌&&◌, ◌||◌, leb, eqb}
-use Rattle.quantity.specs.Choice.{if◌then◌else◌}
+use Rattle.std.specs.Prelude.{ℕ, ◌+◌, ◌-◌, ◌*◌, Bool, ◌&&◌, ◌||◌, leb, eqb, if◌then◌else◌}
 use Rattle.quantity.specs.Rounding.{down}
 use Rattle.section.specs.declared.Section.{Section}
 use Rattle.section.specs.Section.{b, h₀, a', G, S, S', fc, ft, fy, fyc, α₁, ξb}

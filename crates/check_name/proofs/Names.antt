@@ -7,7 +7,7 @@ use lib.Dec.{eqb, leb, ltb}
 use lib.ListN.{length}
 use borrow.Author.Tests.{leb-true}
 use Rattle.quantity.specs.All.{All}
-use Rattle.quantity.specs.Choice.{if◌then◌else◌}
+use Rattle.std.specs.Prelude.{if◌then◌else◌}
 use Rattle.text.specs.Text.{every}
 use Rattle.text.proofs.Bytes.{Graphic, graphic}
 use Rattle.outcome.specs.declared.Check.{Check}

@@ -1,6 +1,5 @@
 -- Largest spacing of links: 000, table 5.5.6.
-use Rattle.std.specs.Prelude.{ℕ, Bool, leb}
-use Rattle.quantity.specs.Choice.{if◌then◌else◌}
+use Rattle.std.specs.Prelude.{ℕ, Bool, leb, if◌then◌else◌}
 
 -- one of four values by the height of the beam, mm
 abbrev pub by_height : ℕ → ℕ → ℕ → ℕ → ℕ → ℕ

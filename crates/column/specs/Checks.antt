@@ -1,6 +1,5 @@
 -- The checks of a column in document 01's order, up to the first that fails (000, 5.6.1, 5.6.2 and 4.2.4).
-use Rattle.std.specs.Prelude.{◌*◌, Bool, ◌&&◌, leb}
-use Rattle.quantity.specs.Choice.{if◌then◌else◌}
+use Rattle.std.specs.Prelude.{◌*◌, Bool, ◌&&◌, leb, if◌then◌else◌}
 use Rattle.material.specs.declared.Concrete.{Concrete}
 use Rattle.material.specs.declared.Steel.{Steel}
 use Rattle.member.specs.Member.{Column}

@@ -1,6 +1,5 @@
 -- Question 8 (document 01, "Questions before any check"; kind 4: document 02, wish 3), put to a whole member.
-use Rattle.std.specs.Prelude.{ℕ, ◌+◌, ◌*◌, Bool, true, ◌&&◌, ◌||◌, leb, ltb, eqb, length}
-use Rattle.quantity.specs.Choice.{if◌then◌else◌}
+use Rattle.std.specs.Prelude.{ℕ, ◌+◌, ◌*◌, Bool, true, ◌&&◌, ◌||◌, leb, ltb, eqb, length, if◌then◌else◌}
 use Rattle.member.specs.declared.Load.{Load}
 use Rattle.member.specs.declared.Load.TheVariants.{Uniform, Point}
 use Rattle.member.specs.Member.{Beam, Column, Mesh, h₀}

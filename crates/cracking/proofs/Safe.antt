@@ -5,7 +5,7 @@ use mathlib.Core.Bool.{Bool, true, false}
 use native.Mathlib.Nat.{mul-pos, mul-le-mul_right}
 use native.Mathlib.Omega.{arith}
 use lib.Dec.{leb, eqb}
-use Rattle.quantity.specs.Choice.{if◌then◌else◌}
+use Rattle.std.specs.Prelude.{if◌then◌else◌}
 use Rattle.quantity.proofs.Choice.{if_case}
 use Rattle.quantity.specs.Fraction.{Frac, ◌//◌, whole, Proper, ◌⊖◌, ◌⊗◌, ◌≼◌, ◌≺◌}
 use Rattle.quantity.specs.Safe.{NotBelow}

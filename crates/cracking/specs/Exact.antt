@@ -1,7 +1,6 @@
 -- The clauses of cracking without rounding: 4.4.1 and 4.4.2 (GB 7.1.2, 7.1.4).
 -- Fractions in N, mm and N/mm².
-use Rattle.std.specs.Prelude.{◌*◌, ◌^◌, ◌≤◌, eqb}
-use Rattle.quantity.specs.Choice.{if◌then◌else◌}
+use Rattle.std.specs.Prelude.{◌*◌, ◌^◌, ◌≤◌, eqb, if◌then◌else◌}
 use Rattle.quantity.specs.Rounding.{clamp}
 use Rattle.quantity.specs.Fraction.{Frac, ◌//◌, whole, ◌⊕◌, ◌⊖◌, ◌⊗◌, ◌⊘◌, clamp_frac, ◌≼◌}
 use Rattle.quantity.specs.Unit.{exact_stress}

@@ -1,6 +1,5 @@
 -- Document 01's steps for the cracking of a beam under service loads: 4.4.1 and 4.4.2.
-use Rattle.std.specs.Prelude.{ℕ, ◌+◌, ◌-◌, ◌*◌, ◌^◌, min, max, Bool, leb, eqb}
-use Rattle.quantity.specs.Choice.{if◌then◌else◌}
+use Rattle.std.specs.Prelude.{ℕ, ◌+◌, ◌-◌, ◌*◌, ◌^◌, min, max, Bool, leb, eqb, if◌then◌else◌}
 use Rattle.quantity.specs.Rounding.{up, down, clamp}
 use Rattle.section.specs.declared.Section.{Section}
 use Rattle.section.specs.Section.{h₀, c, W, S, E, D, Mq, ftk, fyk}

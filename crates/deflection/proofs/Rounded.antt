@@ -3,7 +3,7 @@ use Prim.Native.Nat.{ℕ, ◌-◌, ◌*◌, ◌^◌, ◌<◌, ◌≤◌, min}
 use mathlib.Core.Bool.{Bool, true, false}
 use native.Mathlib.Nat.{mul-pos, mul-le-mul, mul-le-mul_right, mul_assoc}
 use native.Mathlib.Omega.{arith}
-use Rattle.quantity.specs.Choice.{if◌then◌else◌}
+use Rattle.std.specs.Prelude.{if◌then◌else◌}
 use Rattle.quantity.specs.Rounding.{down}
 use Rattle.quantity.specs.Fraction.{Frac, ◌//◌, whole, ◌⊕◌, ◌⊖◌, ◌⊗◌}
 use Rattle.quantity.proofs.Near.{Near, times, over, near_whole, near_up_frac, near_down_frac, near_weaken, near_times, near_up, near_up_ratio, near_sum, near_difference, near_product}

@@ -5,7 +5,7 @@ use mathlib.Core.Bool.{Bool, true, false}
 use native.Mathlib.Nat.{mul-pos}
 use native.Mathlib.Omega.{arith}
 use lib.Dec.{leb, ltb, eqb}
-use Rattle.quantity.specs.Choice.{if◌then◌else◌}
+use Rattle.std.specs.Prelude.{if◌then◌else◌}
 use Rattle.quantity.specs.Fraction.{◌//◌, whole, Proper, ◌⊖◌, ◌⊗◌, ◌≼◌, ◌≺◌}
 use Rattle.quantity.specs.Safe.{NotBelow}
 use Rattle.quantity.proofs.Reflects.{Settles, settles_as, compared}

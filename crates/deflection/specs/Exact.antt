@@ -1,7 +1,6 @@
 -- The clauses of deflection without rounding: 4.5.1 (GB 7.2.3, 7.2.5).
 -- Fractions in N, mm and N/mm².
-use Rattle.std.specs.Prelude.{◌*◌, min, leb, ltb, eqb}
-use Rattle.quantity.specs.Choice.{if◌then◌else◌}
+use Rattle.std.specs.Prelude.{◌*◌, min, leb, ltb, eqb, if◌then◌else◌}
 use Rattle.quantity.specs.Fraction.{Frac, ◌//◌, whole, ◌⊕◌, ◌⊖◌, ◌⊗◌, ◌⊘◌, ◌≼◌}
 use Rattle.quantity.specs.Unit.{exact_stress}
 use Rattle.material.specs.Steel.{Es}

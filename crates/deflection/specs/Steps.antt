@@ -1,6 +1,5 @@
 -- Document 01's steps for the deflection of a beam: 4.5.1.
-use Rattle.std.specs.Prelude.{ℕ, ◌+◌, ◌-◌, ◌*◌, ◌^◌, min, Bool, leb, ltb, eqb}
-use Rattle.quantity.specs.Choice.{if◌then◌else◌}
+use Rattle.std.specs.Prelude.{ℕ, ◌+◌, ◌-◌, ◌*◌, ◌^◌, min, Bool, leb, ltb, eqb, if◌then◌else◌}
 use Rattle.quantity.specs.Rounding.{up, down}
 use Rattle.section.specs.declared.Section.{Section}
 use Rattle.section.specs.Section.{b, h₀, l₀, S, S', Ec}

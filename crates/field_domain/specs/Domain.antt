@@ -1,6 +1,5 @@
 -- What a field may hold (document 01, "Schedule bytes"), and question 7 of one field.
-use Rattle.std.specs.Prelude.{ℕ, Bool, true, false, ◌&&◌, ◌||◌, List, leb, ltb, eqb, get_or}
-use Rattle.quantity.specs.Choice.{if◌then◌else◌}
+use Rattle.std.specs.Prelude.{ℕ, Bool, true, false, ◌&&◌, ◌||◌, List, leb, ltb, eqb, get_or, if◌then◌else◌}
 use Rattle.table.specs.Table.{listed}
 use Rattle.code_tables.specs.Bars.{area_of}
 use Rattle.material.specs.Concrete.{concretes}

@@ -1,6 +1,5 @@
 -- Fields read one by one, each held to its domain: questions 2, 3 and 7 (document 01, "Schedule bytes").
-use Rattle.std.specs.Prelude.{ℕ, ◌+◌, Bool, List, [], ◌∷◌, set, replicate}
-use Rattle.quantity.specs.Choice.{if◌then◌else◌}
+use Rattle.std.specs.Prelude.{ℕ, ◌+◌, Bool, List, [], ◌∷◌, set, replicate, if◌then◌else◌}
 use Rattle.question.specs.declared.Question.{Question}
 use Rattle.question.specs.declared.Question.TheVariants.{Field}
 use Rattle.varint.specs.Varint.{number_at}

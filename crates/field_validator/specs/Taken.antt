@@ -1,6 +1,5 @@
 -- The fields of a member taken as numbers: questions 2 and 3 are put to each, question 7 is left for the member as a whole.
-use Rattle.std.specs.Prelude.{ℕ, zero, suc, ◌+◌, List, [], ◌∷◌, set}
-use Rattle.quantity.specs.Choice.{if◌then◌else◌}
+use Rattle.std.specs.Prelude.{ℕ, zero, suc, ◌+◌, List, [], ◌∷◌, set, if◌then◌else◌}
 use Rattle.question.specs.declared.Question.{Question}
 use Rattle.varint.specs.declared.Number.{Number}
 use Rattle.varint.specs.declared.Number.TheVariants.{Value, Refused}

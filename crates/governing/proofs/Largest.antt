@@ -13,7 +13,7 @@ use lib.Ieee.Fits.{down_pos}
 use lib.Ieee.Order.{le_of_values}
 use lib.Ieee.Positive.{num, den, den_pos, through}
 use borrow.Author.Tests.{ltb-true, ltb-false}
-use Rattle.quantity.specs.Choice.{if◌then◌else◌}
+use Rattle.std.specs.Prelude.{if◌then◌else◌}
 use Rattle.ratio.specs.declared.Ratio.{Ratio}
 use Rattle.ratio.specs.declared.Utilization.{Utilization}
 use Rattle.ratio.specs.Ratio.{finite_nonneg}

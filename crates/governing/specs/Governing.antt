@@ -1,9 +1,8 @@
 -- The largest utilization that was reached, or none.
 -- "The governing share is a double or the plain word none; the largest wins" (document 01, "Shares for the viewer").
-use Rattle.std.specs.Prelude.{◌≡◌, Bool, true, false, List, [], ◌∷◌, ◌⊎◌, T, Float}
+use Rattle.std.specs.Prelude.{◌≡◌, Bool, true, false, List, [], ◌∷◌, ◌⊎◌, T, Float, if◌then◌else◌}
 use Rattle.std.specs.Float.Ieee.{lt, le}
 use Rattle.quantity.specs.All.{All}
-use Rattle.quantity.specs.Choice.{if◌then◌else◌}
 use Rattle.ratio.specs.declared.Ratio.{Ratio}
 use Rattle.ratio.specs.declared.Utilization.{Utilization}
 use Rattle.ratio.specs.Ratio.{finite_nonneg}

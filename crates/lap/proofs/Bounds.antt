@@ -2,7 +2,7 @@
 use Prim.Native.Nat.{ℕ, ◌*◌, ◌≤◌, max}
 use native.Mathlib.Omega.{arith}
 use lib.Dec.{leb, eqb}
-use Rattle.quantity.specs.Choice.{if◌then◌else◌}
+use Rattle.std.specs.Prelude.{if◌then◌else◌}
 use Rattle.quantity.proofs.Choice.{choice_most}
 use Rattle.quantity.proofs.Rounding.{up_le}
 use Rattle.member.specs.Member.{Mesh}

@@ -1,7 +1,6 @@
 -- The lap of a mesh without rounding: 000, 5.3.7.
 -- Lengths are exact fractions of a millimetre.
-use Rattle.std.specs.Prelude.{◌*◌, leb, eqb}
-use Rattle.quantity.specs.Choice.{if◌then◌else◌}
+use Rattle.std.specs.Prelude.{◌*◌, leb, eqb, if◌then◌else◌}
 use Rattle.quantity.specs.Fraction.{Frac, ◌//◌, whole, ◌⊕◌, ◌⊗◌, larger}
 use Rattle.member.specs.Member.{Mesh}
 use Rattle.anchorage.specs.Exact.{exact_basic}

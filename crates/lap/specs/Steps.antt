@@ -1,6 +1,5 @@
 -- The lap of a ribbed welded mesh (document 01, "Mesh."; 000, 5.3.7), in units made smaller as those of the anchorage are.
-use Rattle.std.specs.Prelude.{ℕ, ◌+◌, ◌*◌, max, leb, eqb}
-use Rattle.quantity.specs.Choice.{if◌then◌else◌}
+use Rattle.std.specs.Prelude.{ℕ, ◌+◌, ◌*◌, max, leb, eqb, if◌then◌else◌}
 use Rattle.quantity.specs.Rounding.{up}
 use Rattle.member.specs.Member.{Mesh}
 use Rattle.anchorage.specs.Steps.{basic_length}

@@ -7,7 +7,7 @@ use native.Mathlib.Omega.{arith}
 use lib.Dec.{ltb, ltb→lt}
 use lib.ListN.{length, get_or, take, drop}
 use borrow.Author.Tests.{lt-ltb, le-leb}
-use Rattle.quantity.specs.Choice.{if◌then◌else◌}
+use Rattle.std.specs.Prelude.{if◌then◌else◌}
 use Rattle.quantity.proofs.Choice.{both_true, and_true, and_false, and_assoc, and_comm}
 use Rattle.question.specs.declared.Question.TheVariants.{Mark, Kind, Field}
 use Rattle.bars.specs.declared.Group.{Group}

@@ -1,7 +1,6 @@
 -- A member that a caller built, its groups of bars lent beside it as lists.
 -- It is its mark, its kind, and the fields of its kind in the order of document 01 without the groups; the lists are tension and compression of a beam, the first alone of a column, none of a mesh.
-use Rattle.std.specs.Prelude.{ℕ, Bool, ◌&&◌, List, [], ◌∷◌, take}
-use Rattle.quantity.specs.Choice.{if◌then◌else◌}
+use Rattle.std.specs.Prelude.{ℕ, Bool, ◌&&◌, List, [], ◌∷◌, take, if◌then◌else◌}
 use Rattle.question.specs.declared.Question.TheVariants.{Mark, Kind, Field}
 use Rattle.bars.specs.declared.Group.{Group}
 use Rattle.member.specs.Member.{Beam, Column, Member, beam, column, mesh}

@@ -1,6 +1,5 @@
 -- What the bytes of a member's line say, whatever wrote them.
-use Rattle.std.specs.Prelude.{ℕ, ◌≡◌, List}
-use Rattle.quantity.specs.Choice.{if◌then◌else◌}
+use Rattle.std.specs.Prelude.{ℕ, ◌≡◌, List, if◌then◌else◌}
 use Rattle.text.specs.Text.{value_of, is_decimal, word_of}
 use Rattle.outcome.specs.declared.Check.{Check}
 use Rattle.outcome.specs.declared.Figure.{Figure}

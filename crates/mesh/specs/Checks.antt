@@ -1,6 +1,5 @@
 -- The checks of a mesh in document 01's order, up to the first that fails.
-use Rattle.std.specs.Prelude.{leb}
-use Rattle.quantity.specs.Choice.{if◌then◌else◌}
+use Rattle.std.specs.Prelude.{leb, if◌then◌else◌}
 use Rattle.member.specs.Member.{Mesh}
 use Rattle.outcome.specs.Outcome.{one_figure, two_figures}
 use Rattle.outcome.specs.declared.Outcome.{Outcome}

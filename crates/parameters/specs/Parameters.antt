@@ -1,7 +1,6 @@
 -- The parameter record of document 02, wish 7: what the checks of a beam use of its concrete and its steel together.
 -- Up to C50 grade - 50 is 0.
-use Rattle.std.specs.Prelude.{ℕ, ◌-◌, ◌*◌, ◌/◌, leb}
-use Rattle.quantity.specs.Choice.{if◌then◌else◌}
+use Rattle.std.specs.Prelude.{ℕ, ◌-◌, ◌*◌, ◌/◌, leb, if◌then◌else◌}
 use Rattle.quantity.specs.Fraction.{Frac, ◌//◌, whole, ◌⊕◌, ◌⊘◌}
 use Rattle.quantity.specs.Unit.{in_units}
 use Rattle.material.specs.declared.Steel.{Steel}

@@ -1,5 +1,4 @@
 pub mod All
-pub mod Choice
 pub mod Rounding
 pub mod Fraction
 pub mod Safe

@@ -1,8 +1,7 @@
 // Whole-number arithmetic with stated rounding, and the codes' units as types of their own.
 #![tactic(auto)]
 
-ghost use Rattle.std.specs.Prelude.{◌≡◌, ◌&&◌, ◌||◌, ◌+◌, ◌-◌, ◌*◌, ◌<◌, ◌^◌, min, max};
-ghost use Rattle.quantity.specs.Choice.{if◌then◌else◌};
+ghost use Rattle.std.specs.Prelude.{◌≡◌, ◌&&◌, ◌||◌, ◌+◌, ◌-◌, ◌*◌, ◌<◌, ◌^◌, min, max, if◌then◌else◌};
 ghost use Rattle.quantity.specs.Rounding.{up, down, clamp};
 ghost use Rattle.quantity.specs.Unit.{newtons, millimetres, stress_of, stress_of_tenths, stress_of_hundredths, in_units, in_tenths, in_hundredths};
 

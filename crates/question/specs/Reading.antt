@@ -1,6 +1,5 @@
 -- What a reading comes to: a value, or the first question that is answered no.
-use Rattle.std.specs.Prelude.{ℕ, Bool}
-use Rattle.quantity.specs.Choice.{if◌then◌else◌}
+use Rattle.std.specs.Prelude.{ℕ, Bool, if◌then◌else◌}
 use Rattle.question.specs.declared.Question.{Question}
 use Rattle.question.specs.declared.Refusal.{Refusal}
 use Rattle.question.specs.declared.Verdict.{Verdict}

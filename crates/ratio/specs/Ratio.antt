@@ -1,9 +1,8 @@
 -- One utilization as a double: demand over figure, or figure over limit; the four of a member in one record.
 -- Document 01, "Shares for the viewer", calls a utilization a share.
-use Rattle.std.specs.Prelude.{ℕ, ◌^◌, ◌<◌, ◌≡◌, Bool, true, false, eqb, pos, Float}
+use Rattle.std.specs.Prelude.{ℕ, ◌^◌, ◌<◌, ◌≡◌, Bool, true, false, eqb, pos, Float, if◌then◌else◌}
 use Rattle.std.specs.Float.{nan, inf, fin, binary64}
 use Rattle.std.specs.Float.Ieee.{of_int, div, round, le}
-use Rattle.quantity.specs.Choice.{if◌then◌else◌}
 use Rattle.outcome.specs.declared.Figure.{Figure}
 use Rattle.outcome.specs.declared.Figure.TheVariants.{Reached, Unreached}
 use Rattle.outcome.specs.declared.Outcome.{Outcome}

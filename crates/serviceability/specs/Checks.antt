@@ -1,7 +1,6 @@
 -- The checks of a beam under service loads, the last in document 01's order: 4.4.1, 4.4.2 and 4.5.1.
 -- A figure is worked out when its check is reached.
-use Rattle.std.specs.Prelude.{ℕ, leb}
-use Rattle.quantity.specs.Choice.{if◌then◌else◌}
+use Rattle.std.specs.Prelude.{ℕ, leb, if◌then◌else◌}
 use Rattle.outcome.specs.declared.Check.TheVariants.{Passed, ServiceStress, CrackWidth, Deflection}
 use Rattle.outcome.specs.declared.Outcome.{Outcome}
 use Rattle.outcome.specs.Outcome.{two_figures, three_figures, four_figures}

@@ -1,12 +1,11 @@
 // The checks of a beam under service loads.
 #![tactic(auto)]
 
-ghost use Rattle.std.specs.Prelude.{◌≡◌, true, ◌*◌, ◌≤◌};
+ghost use Rattle.std.specs.Prelude.{◌≡◌, true, ◌*◌, ◌≤◌, if◌then◌else◌};
 ghost use Rattle.section.specs.Section.{G, S};
 ghost use Rattle.section.specs.Bounded.{Bounded};
 ghost use Rattle.cracking.specs.Bounds.{stress_most};
 ghost use Rattle.cracking.specs.Steps.{stress_holds, σ, q};
-ghost use Rattle.quantity.specs.Choice.{if◌then◌else◌};
 ghost use Rattle.serviceability.specs.Checks.{from_deflection, from_width, from_stress};
 
 use cracking::{crack_width, mean_stress, steel_stress, stress_holds, width_limit};

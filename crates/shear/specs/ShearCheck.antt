@@ -1,7 +1,6 @@
 -- The shear check of a beam: 6.3.1v, then 4.3.3 (document 02, wish 6).
 -- The capacity is worked out only where 6.3.1v holds.
-use Rattle.std.specs.Prelude.{◌≡◌, leb}
-use Rattle.quantity.specs.Choice.{if◌then◌else◌}
+use Rattle.std.specs.Prelude.{◌≡◌, leb, if◌then◌else◌}
 use Rattle.quantity.specs.Unit.{newtons}
 use Rattle.section.specs.declared.Section.{Section}
 use Rattle.section.specs.Section.{Vd}

@@ -1,6 +1,5 @@
 -- The steps for the shear and the links of a beam: 4.3.3, 5.5.6s and 5.5.6r (document 01; under a point load document 02, wish 3).
-use Rattle.std.specs.Prelude.{ℕ, ◌+◌, ◌*◌, Bool, true, leb, ltb}
-use Rattle.quantity.specs.Choice.{if◌then◌else◌}
+use Rattle.std.specs.Prelude.{ℕ, ◌+◌, ◌*◌, Bool, true, leb, ltb, if◌then◌else◌}
 use Rattle.quantity.specs.declared.Length.{Length}
 use Rattle.quantity.specs.Rounding.{down, clamp}
 use Rattle.code_tables.specs.Spacing.{spacing_limit}

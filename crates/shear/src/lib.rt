@@ -1,10 +1,9 @@
 // Shear and links of beams: the shear check, spacing of links, least links.
 #![tactic(auto)]
 
-ghost use Rattle.std.specs.Prelude.{◌≡◌, ◌≤◌, leb};
+ghost use Rattle.std.specs.Prelude.{◌≡◌, ◌≤◌, leb, if◌then◌else◌};
 ghost use Rattle.quantity.specs.Unit.{newtons};
 ghost use Rattle.section.specs.Bounded.{Bounded};
-ghost use Rattle.quantity.specs.Choice.{if◌then◌else◌};
 ghost use Rattle.web_crushing.specs.Exact.{WebHolds};
 ghost use Rattle.shear.specs.ShearCheck.{ShearChecked};
 ghost use Rattle.shear.specs.Steps.{concrete_part, clamped_ratio, concrete_under, concrete_shear, link_shear, shear_capacity, shear_above, link_spacing, links_suffice, least_links};

@@ -1,6 +1,5 @@
 -- The stability factor φ as an exact fraction: 000, table 4.2.4, straight between its points.
-use Rattle.std.specs.Prelude.{ℕ, zero, suc, ◌+◌, ◌-◌, ◌*◌, leb, ltb}
-use Rattle.quantity.specs.Choice.{if◌then◌else◌}
+use Rattle.std.specs.Prelude.{ℕ, zero, suc, ◌+◌, ◌-◌, ◌*◌, leb, ltb, if◌then◌else◌}
 use Rattle.quantity.specs.Fraction.{Frac, ◌//◌, whole, ◌⊖◌, ◌⊗◌, ◌⊘◌}
 use Rattle.code_tables.specs.Slenderness.{point}
 

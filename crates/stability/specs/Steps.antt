@@ -1,6 +1,5 @@
 -- The stability factor φ by document 01's scaled steps: 4.2.4.
-use Rattle.std.specs.Prelude.{ℕ, ◌+◌, ◌-◌, ◌*◌, min, leb}
-use Rattle.quantity.specs.Choice.{if◌then◌else◌}
+use Rattle.std.specs.Prelude.{ℕ, ◌+◌, ◌-◌, ◌*◌, min, leb, if◌then◌else◌}
 use Rattle.quantity.specs.Rounding.{down}
 use Rattle.code_tables.specs.Slenderness.{point}
 

@@ -1,6 +1,5 @@
 -- Tables of whole numbers: a list of rows, each with its key first.
-use Rattle.std.specs.Prelude.{ℕ, suc, Bool, false, ◌||◌, List, [], ◌∷◌, eqb, get_or}
-use Rattle.quantity.specs.Choice.{if◌then◌else◌}
+use Rattle.std.specs.Prelude.{ℕ, suc, Bool, false, ◌||◌, List, [], ◌∷◌, eqb, get_or, if◌then◌else◌}
 
 -- the first row with the key k, and no row where k is not listed
 abbrev pub row : ℕ → List (List ℕ) → List ℕ

@@ -8,7 +8,7 @@ use native.Mathlib.Numerals.{add-one}
 use lib.Dec.{leb}
 use lib.ListN.{length, get_or, take}
 use borrow.Author.Tests.{leb-true, le-leb}
-use Rattle.quantity.specs.Choice.{if◌then◌else◌}
+use Rattle.std.specs.Prelude.{if◌then◌else◌}
 use Rattle.quantity.proofs.Choice.{and_true, and_assoc}
 use Rattle.bars.specs.declared.Group.{Group}
 use Rattle.lent_groups.specs.LentGroups.{group_holds, groups_hold, named_hold}

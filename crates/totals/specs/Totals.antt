@@ -1,6 +1,5 @@
 -- The totals of the groups that a count names in a lent list, or question 7.
-use Rattle.std.specs.Prelude.{ℕ, ◌&&◌, List, leb, take}
-use Rattle.quantity.specs.Choice.{if◌then◌else◌}
+use Rattle.std.specs.Prelude.{ℕ, ◌&&◌, List, leb, take, if◌then◌else◌}
 use Rattle.question.specs.declared.Question.TheVariants.{Field}
 use Rattle.question.specs.Question.{number_of}
 use Rattle.bars.specs.declared.Group.{Group}

@@ -11,7 +11,7 @@ use lib.ListN.{length, get_or, drop, length-append}
 use lib.Seq.{get_or-append_seam, drop-cons}
 use lib.Dec.{ltb}
 use borrow.Author.Tests.{lt-ltb, le-ltb, ltb-true, ltb-false, eq-eqb}
-use Rattle.quantity.specs.Choice.{if◌then◌else◌}
+use Rattle.std.specs.Prelude.{if◌then◌else◌}
 use Rattle.quantity.proofs.Rounding.{expand}
 use Rattle.question.specs.declared.Question.TheVariants.{NumberForm}
 use Rattle.varint.specs.declared.Number.{Number}

@@ -1,7 +1,6 @@
 -- The bytes of a number: unsigned LEB128 with as few septets (seven bits each) as hold it, lowest first.
 -- (document 01, "Schedule bytes")
-use Rattle.std.specs.Prelude.{ℕ, zero, suc, ◌+◌, ◌/◌, ◌%◌, ◌<◌, List, [], ◌∷◌, ltb, get_or}
-use Rattle.quantity.specs.Choice.{if◌then◌else◌}
+use Rattle.std.specs.Prelude.{ℕ, zero, suc, ◌+◌, ◌/◌, ◌%◌, ◌<◌, List, [], ◌∷◌, ltb, get_or, if◌then◌else◌}
 
 -- v in at most `more` + 1 septets
 unfoldable pub septets_of : ℕ → ℕ → List ℕ

@@ -1,6 +1,5 @@
 -- The number at a place of a schedule (document 01, "Schedule bytes" and questions 2 and 3).
-use Rattle.std.specs.Prelude.{ℕ, zero, suc, ◌+◌, ◌-◌, ◌*◌, ◌^◌, List, ◌&&◌, ◌||◌, length, get_or, leb, ltb, eqb}
-use Rattle.quantity.specs.Choice.{if◌then◌else◌}
+use Rattle.std.specs.Prelude.{ℕ, zero, suc, ◌+◌, ◌-◌, ◌*◌, ◌^◌, List, ◌&&◌, ◌||◌, length, get_or, leb, ltb, eqb, if◌then◌else◌}
 use Rattle.question.specs.declared.Question.TheVariants.{NumberEnds, NumberForm}
 use Rattle.varint.specs.declared.Number.{Number}
 use Rattle.varint.specs.declared.Number.TheVariants.{Value, Refused}

@@ -1,8 +1,7 @@
 -- How many vectors an input has, and how many of them are equal to what is printed or written.
 -- The input is a row of vectors, of at most 320,000 bytes. A vector is a byte that says what is given, then a schedule or a list of
 -- words, and the text expected, both after their lengths in two bytes, low byte first.
-use Rattle.std.specs.Prelude.{ℕ, zero, suc, ◌+◌, ◌*◌, ◌/◌, ◌≤◌, ◌≡◌, Bool, true, false, ◌&&◌, List, [], ◌∷◌, leb, ltb, eqb, length, get_or, take, drop}
-use Rattle.quantity.specs.Choice.{if◌then◌else◌}
+use Rattle.std.specs.Prelude.{ℕ, zero, suc, ◌+◌, ◌*◌, ◌/◌, ◌≤◌, ◌≡◌, Bool, true, false, ◌&&◌, List, [], ◌∷◌, leb, ltb, eqb, length, get_or, take, drop, if◌then◌else◌}
 use Rattle.program_output.specs.ProgramOutput.{shown, output_of}
 use Rattle.writer.specs.Written.{file_of}
 use Rattle.vectors.specs.declared.Tally.{Tally}

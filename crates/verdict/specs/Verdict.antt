@@ -1,7 +1,6 @@
 -- The questions of a whole member, 8 to 10 and then 14, and those of a single built member.
 -- (document 01, "Questions before any check"; 14: document 02, request 5)
-use Rattle.std.specs.Prelude.{ℕ, Bool, List}
-use Rattle.quantity.specs.Choice.{if◌then◌else◌}
+use Rattle.std.specs.Prelude.{ℕ, Bool, List, if◌then◌else◌}
 use Rattle.question.specs.declared.Question.{Question}
 use Rattle.question.specs.declared.Question.TheVariants.{Mark, Kind, Field, Consistency, Bars, Ratio, ServiceMoment}
 use Rattle.member.specs.Member.{Beam, Column, Mesh, Member, beam, column, mesh}

@@ -1,7 +1,6 @@
 -- The limit of the web without rounding: GB 50010, 6.3.1 (document 02, wishes 6 and 7).
 -- Forces in N, lengths in mm, stresses in N/mm².
-use Rattle.std.specs.Prelude.{◌*◌, leb}
-use Rattle.quantity.specs.Choice.{if◌then◌else◌}
+use Rattle.std.specs.Prelude.{◌*◌, leb, if◌then◌else◌}
 use Rattle.quantity.specs.Fraction.{Frac, ◌//◌, whole, ◌⊖◌, ◌⊗◌, ◌⊘◌, ◌≼◌}
 use Rattle.quantity.specs.Unit.{exact_stress}
 use Rattle.section.specs.declared.Section.{Section}
