@@ -2,9 +2,10 @@
 #![tactic(auto)]
 
 ghost use Rattle.std.specs.Prelude.{◌<◌, length};
-ghost use Rattle.console.specs.Input.{ReadInto};
+ghost use Rattle.console.specs.Input.{ReadInto, HasTaken};
 
 use program_output::print_schedule;
+use std::io::Read;
 
 #[derive(Clone, Copy)]
 enum Input {
@@ -15,40 +16,38 @@ enum Input {
 }
 
 // Reads until the input ends or the buffer is full. The buffer has a byte more than a schedule may have: question 1 sees a longer one.
-fn read_input(buf: &mut [u8]) -> Input
+// A read that a signal interrupts has failed, too.
+fn read_input<R: Read>(input: &mut R, buf: &mut [u8]) -> Input
     requires { 60000 < length buf.old }
-    ensures { ReadInto result buf.new }
+    ensures within { ReadInto result buf.new }
+    ensures bytes { HasTaken (R.remaining input.old) (R.remaining input.new) result buf.new }
 {
     let mut n: usize = 0;
     while n < buf.len() {
-        let got = libc::read(0, &mut buf[n..]);
-        if got < 0 {
-            return Input::Failed;
+        match input.read(&mut buf[n..]) {
+            Ok(0) => break,
+            Ok(more) => n += more,
+            Err(_) => return Input::Failed,
         }
-        let more = io::count(got, &buf[n..]);
-        if more == 0 {
-            break;
-        }
-        n += more;
     }
     Input::Bytes(n)
 }
 
 // Prints the report, or the refusal; 60,000 bytes are room for either.
-fn print_output(src: &[u8]) {
+fn print_output(rt: &HostRuntime, src: &[u8]) {
     let mut out = [0u8; 60000];
     let n = print_schedule(src, &mut out);
-    if !io::write_all(1, &out[..n]) {
-        io::write_all(2, b"koxaltes: output could not be written\n");
+    if rt.write_all(&out[..n]).is_err() {
+        let _ = rt.eprintln("koxaltes: output could not be written");
     }
 }
 
-pub fn run() {
+pub fn run(rt: &HostRuntime) {
     let mut src = [0u8; 60001];
-    match read_input(&mut src) {
-        Input::Bytes(n) => print_output(&src[..n]),
+    match read_input(&mut rt.stdin(), &mut src) {
+        Input::Bytes(n) => print_output(rt, &src[..n]),
         Input::Failed => {
-            io::write_all(2, b"koxaltes: input could not be read\n");
+            let _ = rt.eprintln("koxaltes: input could not be read");
         }
     }
 }

@@ -3,6 +3,6 @@
 
 use console::run;
 
-fn main() {
-    run();
+fn main(rt: HostRuntime) {
+    run(&rt);
 }
