@@ -3,17 +3,20 @@
 # Holds standard output and standard error to what is expected: a line for each case, and exit 1 if one differs.
 set -eu
 root=$(cd "$(dirname "$0")/.." && pwd)
-program=$root/target/bin/cage_report
-if [ $# -gt 0 ]; then
-    program=$(cd "$(dirname "$1")" && pwd)/$(basename "$1")
-else
-    (cd "$root" && rt check cage_report >/dev/null)
-fi
 schedule=$root/crates/cage_report/stdin
 report=$root/crates/cage_report/stdout
 members=$root/crates/run_500_members
 room=$(mktemp -d)
 trap 'rm -rf "$room"' EXIT
+if [ $# -gt 0 ]; then
+    program=$(cd "$(dirname "$1")" && pwd)/$(basename "$1")
+else
+    program=$root/crates/cage_report/out/cage_report
+    if ! (cd "$root/crates/cage_report" && rt run <"$schedule") >"$room/built" 2>&1; then
+        cat "$room/built" >&2
+        exit 1
+    fi
+fi
 cd "$room"
 : >nothing
 echo 'koxaltes: input could not be read' >unread

@@ -1,11 +1,14 @@
 // A schedule's bytes from standard input, the report or the refusal to standard output; a failure in one line on standard error.
 #![tactic(auto)]
 
-ghost use Rattle.std.specs.Prelude.{◌<◌, length};
+ghost use Rattle.std.specs.Prelude.{◌<◌, length, OnOk};
+ghost use Rattle.std.specs.Io.KnownBytes.{Appends};
+ghost use Rattle.program_output.specs.ProgramOutput.{output_of};
 ghost use Rattle.console.specs.Input.{ReadInto, HasTaken};
 
 use program_output::print_schedule;
-use std::io::Read;
+use std::io;
+use std::io::{Read, Write};
 
 #[derive(Clone, Copy)]
 enum Input {
@@ -33,19 +36,23 @@ fn read_input<R: Read>(input: &mut R, buf: &mut [u8]) -> Input
     Input::Bytes(n)
 }
 
-// Prints the report, or the refusal; 60,000 bytes are room for either.
-fn print_output(rt: &HostRuntime, src: &[u8]) {
+// Writes the report, or the refusal; 60,000 bytes are room for either.
+fn print_output<W: Write>(src: &[u8], output: &mut W) -> io::Result<()>
+    ensures { OnOk result (Appends (W.contents output.old) (W.contents output.new) (output_of src.now)) }
+{
     let mut out = [0u8; 60000];
     let n = print_schedule(src, &mut out);
-    if rt.write_all(&out[..n]).is_err() {
-        let _ = rt.eprintln("koxaltes: output could not be written");
-    }
+    output.write_all(&out[..n])
 }
 
 pub fn run(rt: &HostRuntime) {
     let mut src = [0u8; 60001];
     match read_input(&mut rt.stdin(), &mut src) {
-        Input::Bytes(n) => print_output(rt, &src[..n]),
+        Input::Bytes(n) => {
+            if print_output(&src[..n], &mut rt.stdout()).is_err() {
+                let _ = rt.eprintln("koxaltes: output could not be written");
+            }
+        }
         Input::Failed => {
             let _ = rt.eprintln("koxaltes: input could not be read");
         }

@@ -12,6 +12,7 @@ ghost use Rattle.vectors.specs.Vectors.{same_bytes, Holds, pair_at, word_at, wor
 use line::put_refusal;
 use program_output::print_schedule;
 use question::number_of;
+use std::io::Read;
 use text_answer::TextAnswer;
 use writer::write_schedule;
 
@@ -189,13 +190,24 @@ fn input_tally(all: &[u8], n: usize) -> Tally
     }
 }
 
-fn main() {
+// Reads until the buffer is full, the input ends or a read fails: how many bytes stand at the buffer's start.
+fn read_full<R: Read>(input: &mut R, buf: &mut [u8]) -> usize
+    ensures { (result ≤ length buf.new) × (result ≡ length (take result buf.new)) }
+{
+    let mut n: usize = 0;
+    while n < buf.len() {
+        match input.read(&mut buf[n..]) {
+            Ok(0) => break,
+            Ok(more) => n += more,
+            Err(_) => break,
+        }
+    }
+    n
+}
+
+fn main(rt: HostRuntime) {
     let mut all = [0u8; 320001];
-    let n = io::read_full(0, &mut all);
+    let n = read_full(&mut rt.stdin(), &mut all);
     let t = input_tally(&all, n);
-    io::write_all(1, b"vectors ");
-    io::print_decimal(1, t.vectors);
-    io::write_all(1, b" equal ");
-    io::print_decimal(1, t.equal);
-    io::write_all(1, b"\n");
+    let _ = println!(rt; "vectors {} equal {}", t.vectors, t.equal);
 }
