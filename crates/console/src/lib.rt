@@ -1,8 +1,9 @@
 // A schedule's bytes from standard input, the report or the refusal to standard output; a failure in one line on standard error.
 #![tactic(auto)]
 
-ghost use Rattle.std.specs.Prelude.{◌<◌, length, OnOk};
+ghost use Rattle.std.specs.Prelude.{◌≡◌, ◌<◌, length, take, OnOk, IfSome, Err};
 ghost use Rattle.std.specs.Io.KnownBytes.{Appends};
+ghost use Rattle.console.specs.declared.Failure as Failure;
 ghost use Rattle.program_output.specs.ProgramOutput.{output_of};
 ghost use Rattle.console.specs.Input.{ReadInto, HasTaken};
 
@@ -16,6 +17,14 @@ enum Input {
     Bytes(usize),
     // a read failed
     Failed,
+}
+
+#[derive(Clone, Copy)]
+enum Failure {
+    // a read failed, and nothing was written
+    Unread,
+    // a write failed, and some of the output may have been written
+    Unwritten,
 }
 
 // Reads until the input ends or the buffer is full. The buffer has a byte more than a schedule may have: question 1 sees a longer one.
@@ -45,16 +54,30 @@ fn print_output<W: Write>(src: &[u8], output: &mut W) -> io::Result<()>
     output.write_all(&out[..n])
 }
 
-pub fn run(rt: &HostRuntime) {
+// Prints the report, or the refusal, of all that the input has; of an input past 60,000 bytes, of its first 60,001.
+fn print_input<R: Read, W: Write>(input: &mut R, output: &mut W) -> Result<(), Failure>
+    ensures printed { OnOk result (IfSome (R.remaining input.old) (λ bytes.
+        Appends (W.contents output.old) (W.contents output.new) (output_of (take 60001 bytes)))) }
+    ensures silent { result ≡ Err Failure.Unread → output.new ≡ output.old }
+{
     let mut src = [0u8; 60001];
-    match read_input(&mut rt.stdin(), &mut src) {
-        Input::Bytes(n) => {
-            if print_output(&src[..n], &mut rt.stdout()).is_err() {
-                let _ = rt.eprintln("koxaltes: output could not be written");
-            }
-        }
-        Input::Failed => {
+    match read_input(input, &mut src) {
+        Input::Bytes(n) => match print_output(&src[..n], output) {
+            Ok(()) => Ok(()),
+            Err(_) => Err(Failure::Unwritten),
+        },
+        Input::Failed => Err(Failure::Unread),
+    }
+}
+
+pub fn run(rt: &HostRuntime) {
+    match print_input(&mut rt.stdin(), &mut rt.stdout()) {
+        Ok(()) => {}
+        Err(Failure::Unread) => {
             let _ = rt.eprintln("koxaltes: input could not be read");
+        }
+        Err(Failure::Unwritten) => {
+            let _ = rt.eprintln("koxaltes: output could not be written");
         }
     }
 }
