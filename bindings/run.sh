@@ -13,7 +13,7 @@ grep -qx "#define KOXALTES_VERSION \"$version\"" "$here/c/koxaltes.h" || {
     exit 1
 }
 mkdir -p "$work"
-(cd "$root" && rt staticlib koxaltes >"$work/library.log" 2>&1) || {
+"$here/library.sh" >"$work/library.log" 2>&1 || {
     cat "$work/library.log"
     exit 1
 }

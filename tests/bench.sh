@@ -3,7 +3,7 @@
 set -eu
 here=$(cd "$(dirname "$0")" && pwd)
 if [ -z "${KOXALTES_LIB_DIR:-}" ]; then
-    (cd "$here/.." && rt staticlib koxaltes >/dev/null)
+    "$here/../bindings/library.sh" >/dev/null
 fi
 cd "$here"
 cargo build --quiet --release -j1 --bin bench

@@ -1,6 +1,6 @@
 /* Koxaltes: a proved checker of reinforcement schedules, for callers in C and C++. The manual is docs/MANUAL.md.
  *
- * Link target/staticlib/libkoxaltes.a (`rt staticlib koxaltes`). The library is compiled for x86-64 Linux and follows the
+ * Link target/staticlib/libkoxaltes.a (`bindings/library.sh`). The library is compiled for x86-64 Linux and follows the
  * System V AMD64 calling convention. It uses no heap, no global state and no function of the C library but memcpy; any thread
  * may call it.
  *

@@ -1,4 +1,5 @@
-// The entries for callers in C and Rust: what crosses is a struct by value, a pointer with a length, a number. Every entry takes any input.
+// The entries for callers in C and Rust, which crate `koxaltes_c` exports: what crosses is a struct by value, a pointer with a length, a number.
+// Every entry takes any input.
 #![tactic(auto)]
 
 ghost use Rattle.std.specs.Prelude.{◌≡◌};
@@ -21,8 +22,7 @@ use utilization::utilization_of;
 use writer::write_schedule;
 
 // The report of a schedule's bytes.
-#[unsafe(no_mangle)]
-pub extern "C" fn koxaltes_report(src: &[u8], out: &mut [u8]) -> AnswerRecord
+pub fn koxaltes_report(src: &[u8], out: &mut [u8]) -> AnswerRecord
     ensures { ReportEntry src.now out.old out.new result }
 {
     answer_record(report(src, out))
@@ -36,8 +36,7 @@ fn member_answer(x: Lent, first: [Group; 4], second: [Group; 4], out: &mut [u8])
 
 // The line of a member that a caller built: its groups, tension and compression of a beam, are lent as two lists of groups.
 // A column has the first list only, a mesh none.
-#[unsafe(no_mangle)]
-pub extern "C" fn koxaltes_member_report(
+pub fn koxaltes_member_report(
     x: Lent,
     first: &[Group],
     second: &[Group],
@@ -60,12 +59,7 @@ fn utilization_answer(x: Lent, first: [Group; 4], second: [Group; 4]) -> Utiliza
 }
 
 // The utilization of a member that a caller built, its groups lent as for `koxaltes_member_report`.
-#[unsafe(no_mangle)]
-pub extern "C" fn koxaltes_member_utilization(
-    x: Lent,
-    first: &[Group],
-    second: &[Group],
-) -> UtilizationRecord
+pub fn koxaltes_member_utilization(x: Lent, first: &[Group], second: &[Group]) -> UtilizationRecord
     ensures { UtilizationEntry (lent_utilization_of x first.now second.now) (lent_member x first.now second.now) result }
 {
     utilization_answer(
@@ -76,8 +70,7 @@ pub extern "C" fn koxaltes_member_utilization(
 }
 
 // The totals of the first `count` groups of a list: number of bars, area, n·d, n·d².
-#[unsafe(no_mangle)]
-pub extern "C" fn koxaltes_bar_totals(groups: &[Group], count: usize) -> BarTotals
+pub fn koxaltes_bar_totals(groups: &[Group], count: usize) -> BarTotals
     ensures { result ≡ bar_totals count groups.now }
 {
     copied_totals(first_groups(groups, count), count)
@@ -85,8 +78,7 @@ pub extern "C" fn koxaltes_bar_totals(groups: &[Group], count: usize) -> BarTota
 
 // The file of a schedule held as words, 42 to a member: mark, kind, and 40 slots with its fields in the order of a schedule, four groups to
 // each list. Slots past a count, and words past the last whole member, have no effect.
-#[unsafe(no_mangle)]
-pub extern "C" fn koxaltes_write_schedule(words: &[u32], out: &mut [u8]) -> AnswerRecord
+pub fn koxaltes_write_schedule(words: &[u32], out: &mut [u8]) -> AnswerRecord
     ensures { WriteEntry words.now out.old out.new result }
 {
     answer_record(write_schedule(words, out))

@@ -1,4 +1,2 @@
-pub mod Placed
 pub mod InSlots
 pub mod Unread
-pub mod Calls

@@ -138,6 +138,7 @@ fn mesh_slots(x: Fields) -> Slots
     put_fields(none, 0, x, 0, MESH_FIELDS)
 }
 
+#[tactic(auto, unfolding(crate::specs::LentSlots::lent_slots))]
 fn slots_of(kind: MemberKind, x: Fields, first: [Group; 4], second: [Group; 4]) -> Slots
     ensures { result.v ≡ lent_slots kind x.v first second }
 {
