@@ -1,0 +1,19 @@
+use Prim.Native.Nat.{◌*◌, ◌-◌, ◌≤◌}
+use mathlib.Core.Path.{◌≡◌, refl, sym, ◌∙◌}
+use native.Mathlib.Omega.{arith}
+use lib.ListN.{length, length-set}
+use lib.Seq.{sets}
+use borrow.Author.Rules.{rules}
+use Rattle.vectors.specs.Vectors.{words_from}
+use Rattle.vectors.proofs.Words.{all_left, word_stored, none_left, words_hold}
+use Rattle.vectors.proofs.read_words.Given as goal
+
+abbrev pub invariant-loop-i : goal.invariant-loop-i
+invariant-loop-i l =
+    (length l.words ≡ 16384)
+    × (l.p ≡ 4 * l.i)
+    × (l.i ≤ l.n)
+    × (sets l.words l.i (words_from (l.n - l.i) l.src l.p) ≡ sets l.initial.words 0 (words_from l.n l.src 0))
+
+abbrev pub decreases-loop-i : goal.decreases-loop-i
+decreases-loop-i l = l.n - l.i
