@@ -1,5 +1,4 @@
 -- `vectors::agrees` meets its contract.
-use borrow.Author.Rules.{rules}
 use borrow.Author.Tests.{eq-eqb, ne_eqb}
 use Rattle.vectors.specs.Vectors.{answer_to}
 use Rattle.vectors.proofs.agrees.Goals as goal

@@ -3,7 +3,6 @@ use Prim.Native.Nat.{◌+◌}
 use mathlib.Core.Path.{refl, sym, ◌∙◌}
 use native.Mathlib.Omega.{arith}
 use Rattle.vectors.proofs.Walk.{part_lent, cut, whole}
-use borrow.Author.Rules.{rules}
 use Rattle.vectors.proofs.equal_at.Goals as goal
 
 pub returns-then-src-d : goal.returns-then-src-d

@@ -5,7 +5,6 @@ use lib.Dec.{ltb}
 use lib.ListN.{length, take}
 use lib.Seq.{length-take-le}
 use Rattle.vectors.proofs.Walk.{one_most, tally_is}
-use borrow.Author.Rules.{rules}
 use Rattle.vectors.proofs.input_tally.Goals as goal
 use Rattle.vectors.proofs.input_tally.Goals.{Start}
 

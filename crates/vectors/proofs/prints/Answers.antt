@@ -5,14 +5,13 @@ use native.Mathlib.Omega.{arith}
 use lib.ListN.{length, take}
 use Rattle.program_output.proofs.ProgramOutput.{within}
 use Rattle.vectors.proofs.Bytes.{output}
-use borrow.Author.Rules.{rules}
 use Rattle.vectors.proofs.prints.Goals as goal
 use Rattle.vectors.proofs.prints.Goals.{After-print_schedule-n}
 
 -- what is printed stands within the buffer
 printed : (c : After-print_schedule-n) →
     let n = c.print_schedule-n.result in
-    let out = c.print_schedule-n.new.1.0 in
+    let out = c.print_schedule-n.new.out in
     (n ≤ length out) × (n ≡ length (take n out))
 printed c = within _ _ _ _ c.print_schedule-n.ensures (omega arith)
 

@@ -1,11 +1,8 @@
 -- `vectors::read_words` meets its contract. The loop's invariant: whoever stores the words that are left has stored all of them.
-use Prim.Native.Nat.{◌*◌, ◌-◌, ◌≤◌}
-use mathlib.Core.Path.{◌≡◌, refl, sym, ◌∙◌}
+use mathlib.Core.Path.{refl, sym, ◌∙◌}
 use native.Mathlib.Omega.{arith}
-use lib.ListN.{length, length-set}
-use lib.Seq.{sets}
+use lib.ListN.{length-set}
 use borrow.Author.Rules.{rules}
-use Rattle.vectors.specs.Vectors.{words_from}
 use Rattle.vectors.proofs.Words.{all_left, word_stored, none_left, words_hold}
 use Rattle.vectors.proofs.read_words.Goals as goal
 

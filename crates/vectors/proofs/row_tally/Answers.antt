@@ -1,11 +1,10 @@
 -- `vectors::row_tally` meets its contract: the vectors of the whole row are those counted and those from p on.
-use Prim.Native.Nat.{◌+◌, ◌-◌, ◌≤◌}
-use mathlib.Core.Path.{◌≡◌, ap, ap₂, ◌∙◌}
+use mathlib.Core.Path.{ap, ap₂, ◌∙◌}
 use native.Mathlib.Omega.{arith}
 use lib.ListN.{length}
 use borrow.Author.Rules.{rules}
-use Rattle.vectors.specs.Vectors.{part_end, equal_at, one_if, starts, equal_of, tally}
-use Rattle.vectors.proofs.Walk.{left, all_left, one_most, one_vector, one_equal, none_left}
+use Rattle.vectors.specs.Vectors.{part_end, equal_at, one_if, equal_of, tally}
+use Rattle.vectors.proofs.Walk.{all_left, one_most, one_vector, one_equal, none_left}
 use Rattle.vectors.proofs.row_tally.Goals as goal
 
 pub loop-p-init : goal.loop-p-init

@@ -1,10 +1,8 @@
 use Prim.Native.Nat.{◌+◌, ◌-◌, ◌≤◌}
-use mathlib.Core.Path.{◌≡◌, ap, ap₂, ◌∙◌}
-use native.Mathlib.Omega.{arith}
+use mathlib.Core.Path.{◌≡◌}
 use lib.ListN.{length}
-use borrow.Author.Rules.{rules}
-use Rattle.vectors.specs.Vectors.{part_end, equal_at, one_if, starts, equal_of, tally}
-use Rattle.vectors.proofs.Walk.{left, all_left, one_most, one_vector, one_equal, none_left}
+use Rattle.vectors.specs.Vectors.{starts, equal_of}
+use Rattle.vectors.proofs.Walk.{left}
 use Rattle.vectors.proofs.row_tally.Given as goal
 
 abbrev pub invariant-loop-p : goal.invariant-loop-p

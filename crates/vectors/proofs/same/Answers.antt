@@ -1,10 +1,7 @@
 -- `vectors::same` meets its contract: the answer for the whole lists is the answer from i on.
-use Prim.Native.Nat.{◌-◌, ◌≤◌}
-use mathlib.Core.Path.{◌≡◌, refl, sym, ◌∙◌}
+use mathlib.Core.Path.{refl, sym, ◌∙◌}
 use native.Mathlib.Omega.{arith}
-use lib.ListN.{length, drop}
 use borrow.Author.Rules.{rules}
-use Rattle.vectors.specs.Vectors.{same_bytes}
 use Rattle.vectors.proofs.Bytes.{other_length, other_byte, equal_byte, all_passed}
 use Rattle.vectors.proofs.same.Goals as goal
 

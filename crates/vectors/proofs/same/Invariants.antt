@@ -1,10 +1,7 @@
 use Prim.Native.Nat.{◌-◌, ◌≤◌}
-use mathlib.Core.Path.{◌≡◌, refl, sym, ◌∙◌}
-use native.Mathlib.Omega.{arith}
+use mathlib.Core.Path.{◌≡◌}
 use lib.ListN.{length, drop}
-use borrow.Author.Rules.{rules}
 use Rattle.vectors.specs.Vectors.{same_bytes}
-use Rattle.vectors.proofs.Bytes.{other_length, other_byte, equal_byte, all_passed}
 use Rattle.vectors.proofs.same.Given as goal
 
 abbrev pub invariant-loop-i : goal.invariant-loop-i

@@ -1,7 +1,6 @@
 -- `vectors::write_words` meets its contract.
 use native.Mathlib.Omega.{arith}
 use Rattle.vectors.proofs.Words.{was_written, was_refused}
-use borrow.Author.Rules.{rules}
 use Rattle.vectors.proofs.write_words.Goals as goal
 
 pub returns-in-Written : goal.returns-in-Written

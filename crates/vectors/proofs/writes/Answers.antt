@@ -1,7 +1,6 @@
 -- `vectors::writes` meets its contract.
 use mathlib.Core.Path.{sym, ◌∙◌}
 use lib.Seq.{length-take-le}
-use borrow.Author.Rules.{rules}
 use Rattle.vectors.proofs.writes.Goals as goal
 
 pub slice_bounds-write_words-end : goal.slice_bounds-write_words-end
