@@ -6,7 +6,7 @@
 set -eu
 usage() { sed -n '2,5s/^# //p' "$0" >&2; exit 2; }
 root=$(cd "$(dirname "$0")/.." && pwd)
-crates=$(sed -n 's/^\([a-z][a-z_0-9]*\):.*/\1/p' "$root/crates.txt")
+crates=$(sed -n 's/^\([a-z][a-z_0-9]*\)\( staticlib\)\{0,1\}:.*/\1/p' "$root/crates.txt")
 
 definitions() {
     echo '| crate | file | lines | what it defines |'
