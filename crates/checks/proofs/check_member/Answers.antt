@@ -8,11 +8,11 @@ check_beam-requires c =
 
 pub check_column-requires : goal.check_column-requires
 check_column-requires c =
-    rw c.column_of.ensures (as_column _ _ c.in-Column.is c.requires)
+    rw c.column_of.ensures (as_column _ _ (cc) c.requires)
 
 pub check_mesh-requires : goal.check_mesh-requires
 check_mesh-requires c =
-    rw c.mesh_of.ensures (as_mesh _ _ c.in-Mesh.is c.requires)
+    rw c.mesh_of.ensures (as_mesh _ _ (cc) c.requires)
 
 pub returns-in-Beam : goal.returns-in-Beam
 returns-in-Beam c =
