@@ -2,7 +2,7 @@
 # The tables of docs/AUDIT.md, in markdown:
 #   sh docs/audit.sh definitions   every file of crates/*/specs (but Lib.antt, lists of modules): its lines and its title
 #   sh docs/audit.sh edits         every must-fail edit, and what it shows
-#   sh docs/audit.sh times LOG     from a log of .ci/run, by crate: seconds of its proof, its edits, their seconds in all
+#   sh docs/audit.sh times LOG     from a log of .ci/run by the older toolchain, which names seconds: by crate those of its proof and its edits
 set -eu
 usage() { sed -n '2,5s/^# //p' "$0" >&2; exit 2; }
 root=$(cd "$(dirname "$0")/.." && pwd)
