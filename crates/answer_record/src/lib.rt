@@ -8,7 +8,7 @@ ghost use Rattle.utilization.specs.Utilized.{values_of, values_given, values_ref
 ghost use Rattle.answer_record.specs.AnswerRecord.{answer_record};
 ghost use Rattle.answer_record.specs.UtilizationRecord.{with_governing, utilization_record};
 
-use governing::{Governing, governing_of};
+use governing::governing_of;
 use question::{Refusal, number_of};
 use ratio::Utilization;
 use text_answer::TextAnswer;
@@ -24,16 +24,16 @@ pub struct AnswerRecord {
 }
 
 // The answer of a report or of a file.
-pub fn answer_record(a: TextAnswer) -> AnswerRecord
+pub fn answer_record(a: Result<usize, Refusal>) -> AnswerRecord
     ensures { result ≡ answer_record (numbers_of a) }
 {
     match a {
-        TextAnswer::Written(n) => AnswerRecord {
+        Ok(n) => AnswerRecord {
             question: 0,
             member: 0,
             length: n,
         },
-        TextAnswer::Refused(r) => {
+        Err(r) => {
             let q = r.question;
             AnswerRecord {
                 question: number_of(q),
@@ -56,18 +56,18 @@ pub struct UtilizationRecord {
     pub governing: f64,
 }
 
-fn with_governing(u: Utilization, g: Governing) -> UtilizationRecord
+fn with_governing(u: Utilization, g: Option<f64>) -> UtilizationRecord
     ensures { result ≡ with_governing (values_given u) (governing_value g) }
 {
     match g {
-        Governing::Largest(x) => UtilizationRecord {
+        Some(x) => UtilizationRecord {
             question: 0,
             member: 0,
             utilization: u,
             governs: true,
             governing: x,
         },
-        Governing::None => UtilizationRecord {
+        None => UtilizationRecord {
             question: 0,
             member: 0,
             utilization: u,
@@ -101,11 +101,11 @@ fn refused_utilization(refusal: Refusal) -> UtilizationRecord
 }
 
 // The answer of a member's utilization.
-pub fn utilization_record(a: utilization::UtilizationAnswer) -> UtilizationRecord
+pub fn utilization_record(a: Result<Utilization, Refusal>) -> UtilizationRecord
     ensures { result ≡ utilization_record (values_of a) }
 {
     match a {
-        utilization::UtilizationAnswer::Given(u) => with_governing(u, governing_of(u)),
-        utilization::UtilizationAnswer::Refused(r) => refused_utilization(r),
+        Ok(u) => with_governing(u, governing_of(u)),
+        Err(r) => refused_utilization(r),
     }
 }

@@ -1,4 +1,5 @@
 -- A number that is known to be read, group by group.
+use Rattle.std.specs.Prelude.{Err, Ok}
 use mathlib.Core.Path.{◌≡◌, refl, sym, ap, ◌∙◌}
 use mathlib.Core.List.{List}
 use mathlib.Core.Logic.{⊎_elim}
@@ -6,8 +7,7 @@ use Prim.Native.Nat.{ℕ, zero, suc, ◌+◌, ◌-◌, ◌*◌, ◌^◌, ◌≤�
 use native.Mathlib.Nat.{pow-suc}
 use native.Mathlib.Omega.{arith}
 use lib.ListN.{length, get_or}
-use Rattle.varint.specs.declared.Number.{Number}
-use Rattle.varint.specs.declared.Number.TheVariants.{Value, Refused}
+use Rattle.varint.specs.Varint.{Number}
 use Rattle.varint.specs.Varint.{number_at, septets_at}
 use Rattle.varint.proofs.Septets.{Cases, septets_inv, refused_no_value, last_septet_at, septet_follows, only_septet, from_second, from_third, weight}
 use Rattle.question.specs.Reading.{Got}
@@ -16,12 +16,12 @@ use Rattle.field_validator.specs.Placed.{of_number}
 record WasValue (n : Number) : Type 0 where
   value : ℕ
   next : ℕ
-  was : n ≡ Value value next
+  was : n ≡ Ok (value, next)
 
 was_value : (n : Number) → Got (of_number n) → WasValue n
 unfolding Got
-was_value (Value x next) ok = record { value = x; next = next; was = refl }
-was_value (Refused q) ok = absurd ok
+was_value (Ok (x, next)) ok = record { value = x; next = next; was = refl }
+was_value (Err q) ok = absurd ok
 
 -- The group at p is read: b, of weight w, the value of the groups below it v; `left` may follow.
 module _ (s : List ℕ) (left p w v : ℕ) (ok : Got (of_number (septets_at (suc left) s p w v))) where
@@ -35,7 +35,7 @@ module _ (s : List ℕ) (left p w v : ℕ) (ok : Got (of_number (septets_at (suc
   there = group.0
 
   module _ (b : ℕ) (q : b ≡ get_or s p 0) where
-    pub ends : b < 128 → (v + b * w < 2 ^ 32) × (septets_at (suc left) s p w v ≡ Value (v + b * w) (p + 1))
+    pub ends : b < 128 → (v + b * w < 2 ^ 32) × (septets_at (suc left) s p w v ≡ Ok (v + b * w, p + 1))
     ends t =
         ⊎_elim
         (λ e.
@@ -52,7 +52,7 @@ module _ (s : List ℕ) (at : ℕ) (ok : Got (of_number (number_at s at))) where
   first_there = there s 4 at 1 0 ok
 
   module _ (a : ℕ) (q : a ≡ get_or s at 0) where
-    pub first_ends : a < 128 → number_at s at ≡ Value a (at + 1)
+    pub first_ends : a < 128 → number_at s at ≡ Ok (a, at + 1)
     unfolding number_at
     first_ends t = last_septet_at s 5 at 1 0 (omega arith) a q first_there t ∙ only_septet a (at + 1) t
 
@@ -64,7 +64,7 @@ module _ (s : List ℕ) (at : ℕ) (ok : Got (of_number (number_at s at))) where
       second_there = there s 3 (at + 1) 128 (a - 128) second
 
       module _ (b : ℕ) (r : b ≡ get_or s (at + 1) 0) where
-        pub second_ends : b < 128 → number_at s at ≡ Value (a - 128 + b * 128) (at + 2)
+        pub second_ends : b < 128 → number_at s at ≡ Ok (a - 128 + b * 128, at + 2)
         second_ends u =
             let n : at + 2 ≡ at + 1 + 1 = omega arith in
             from_second s at a q first_there t ∙ rw n (ends s 3 (at + 1) 128 (a - 128) second b r u).1

@@ -1,10 +1,10 @@
 -- Numbers and fields that are known to be taken, one after the other.
+use Rattle.std.specs.Prelude.{Err, Ok}
 use mathlib.Core.Path.{◌≡◌}
 use mathlib.Core.List.{List}
 use Prim.Native.Nat.{ℕ, suc, ◌+◌, ◌-◌, ◌<◌}
 use native.Mathlib.Omega.{arith}
-use Rattle.varint.specs.declared.Number.{Number}
-use Rattle.varint.specs.declared.Number.TheVariants.{Value, Refused}
+use Rattle.varint.specs.Varint.{Number}
 use Rattle.varint.specs.Varint.{number_at}
 use Rattle.question.specs.Reading.{Reading, got, no, Got, and_then}
 use Rattle.field_validator.specs.Placed.{of_number}
@@ -33,5 +33,5 @@ number_got s p end i v h ok =
     stored_got (number_at s p) (first_got (stored s p i v) _ (rw more at ok))
   where
     stored_got : (n : Number) → Got (stored_by n i v) → Got (of_number n)
-    stored_got (Value x next) ok = tt
-    stored_got (Refused q) ok = ok
+    stored_got (Ok (x, next)) ok = tt
+    stored_got (Err q) ok = ok

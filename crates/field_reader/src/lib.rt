@@ -13,7 +13,7 @@ use field_table::{
     COMPRESSION_GROUPS, MESH_FIELDS, MemberKind, TENSION_COUNT, TENSION_GROUPS, beam_field_count,
 };
 use field_validator::at_most_four;
-use varint::{Number, widen};
+use varint::widen;
 
 // A number, and the place after its last septet.
 #[derive(Clone, Copy)]
@@ -35,7 +35,7 @@ fn number_read(value: u64, next: usize) -> NumberRead
 // The septets from the third on, the third at `at`; low is the value of the first two.
 fn read_long(src: &[u8], at: usize, low: u64) -> NumberRead
     requires { (low < 16384) × (Got (of_number (septets_at 3 src.now at 16384 low))) }
-    ensures { septets_at 3 src.now at 16384 low ≡ Number.Value result.value result.next }
+    ensures { septets_at 3 src.now at 16384 low ≡ Ok (result.0, result.1) }
 {
     let mut p = at;
     let mut w: u64 = 16384;
@@ -53,7 +53,7 @@ fn read_long(src: &[u8], at: usize, low: u64) -> NumberRead
 // The number whose first septet stands at `at`.
 pub fn read_number(src: &[u8], at: usize) -> NumberRead
     requires { Got (of_number (number_at src.now at)) }
-    ensures { number_at src.now at ≡ Number.Value result.value result.next }
+    ensures { number_at src.now at ≡ Ok (result.0, result.1) }
 {
     let first = widen(src[at]);
     if first < 128 {

@@ -1,4 +1,5 @@
 -- The steps of reading the fields of a member, as the code takes them.
+use Rattle.std.specs.Prelude.{Err, Ok}
 use Prim.Native.Nat.{ℕ, ◌+◌, ◌≤◌, ◌<◌}
 use mathlib.Core.Path.{◌≡◌, sym, ap, ◌∙◌}
 use mathlib.Core.Bool.{true, false}
@@ -6,8 +7,7 @@ use mathlib.Core.List.{List}
 use lib.ListN.{length, get_or, drop, set, drop_of_length-le}
 use Rattle.question.specs.declared.Question.{Question}
 use Rattle.question.specs.declared.Question.TheVariants.{Field}
-use Rattle.varint.specs.declared.Number.{Number}
-use Rattle.varint.specs.declared.Number.TheVariants.{Value, Refused}
+use Rattle.varint.specs.Varint.{Number}
 use Rattle.field_domain.specs.declared.Domain.{Domain}
 use Rattle.field_domain.specs.declared.Domain.TheVariants.{Grade}
 use Rattle.field_domain.specs.Domain.{is_present, holds}
@@ -31,10 +31,10 @@ module _ (fs : List Domain) (s : List ℕ) (p i : ℕ) (v : List ℕ) where
     field_absent a = step ∙ rw a
 
     module _ (a : is_present d v ≡ true) (n : Number) (e : of_number n ≡ checked Field (holds d) s p) where
-      pub field_refused : (q : Question) → n ≡ Refused q → fields (drop i fs) s p i v ≡ no q
+      pub field_refused : (q : Question) → n ≡ Err q → fields (drop i fs) s p i v ≡ no q
       unfolding field
       field_refused q f = step ∙ rw (a, sym e ∙ ap of_number f)
 
-      pub field_stored : (x next : ℕ) → n ≡ Value x next → fields (drop i fs) s p i v ≡ fields (drop (i + 1) fs) s next (i + 1) (set v i x)
+      pub field_stored : (x next : ℕ) → n ≡ Ok (x, next) → fields (drop i fs) s p i v ≡ fields (drop (i + 1) fs) s next (i + 1) (set v i x)
       unfolding field
       field_stored x next f = step ∙ rw (a, sym e ∙ ap of_number f)

@@ -7,11 +7,10 @@ use native.Mathlib.Omega.{arith}
 use lib.ListN.{length, get_or, set, take, drop, length-set}
 use lib.Seq.{get_or-set_same, get_or-set_other}
 use borrow.Author.Tests.{lt-ltb, le-ltb}
-use Rattle.std.specs.Prelude.{if◌then◌else◌}
+use Rattle.std.specs.Prelude.{if◌then◌else◌, Err, Ok}
 use Rattle.quantity.proofs.Choice.{if_case, both_true}
 use Rattle.question.specs.declared.Question.{Question}
-use Rattle.varint.specs.declared.Number.{Number}
-use Rattle.varint.specs.declared.Number.TheVariants.{Value, Refused}
+use Rattle.varint.specs.Varint.{Number}
 use Rattle.varint.specs.Varint.{number_at}
 use Rattle.field_domain.specs.declared.Domain.{Domain}
 use Rattle.field_domain.specs.declared.Domain.TheVariants.{Range, GroupDiameter, GroupBars}
@@ -21,9 +20,7 @@ use Rattle.field_table.specs.declared.MemberKind.{MemberKind}
 use Rattle.field_table.specs.Fields.{tension_count, compression_count, beam_links, column_count, column_links, groups, beam_fields_of, column_fields, mesh_fields, fields_of}
 use Rattle.field_check.specs.FieldCheck.{fields_hold}
 use Rattle.field_table.proofs.Tables.{fields_fit}
-use Rattle.field_validator.specs.declared.FieldsEnd.{FieldsEnd}
-use Rattle.field_validator.specs.declared.FieldsEnd.TheVariants.{To}
-use Rattle.field_validator.specs.declared.FieldsEnd.TheVariants as ends
+use Rattle.field_validator.specs.Taken.{FieldsEnd}
 use Rattle.question.specs.Reading.{Reading, got, no, and_then}
 use Rattle.field_validator.specs.Placed.{Placed, placed}
 use Rattle.field_validator.specs.FieldsAt.{empty, field, fields}
@@ -34,18 +31,18 @@ use Rattle.field_validator.proofs.Held.{on_field, ordered, in_order}
 
 -- a number is stored, or refused
 on_stored : (P : Reading Stopped (Placed (List ℕ)) → Type 0) (s : List ℕ) (p i : ℕ) (v : List ℕ)
-    → ((x next : ℕ) → number_at s p ≡ Value x next → P (got (placed (set v i x) next))) → ((q : Question) → P (no (stopped q v))) → P (stored s p i v)
+    → ((x next : ℕ) → number_at s p ≡ Ok (x, next) → P (got (placed (set v i x) next))) → ((q : Question) → P (no (stopped q v))) → P (stored s p i v)
 unfolding stored
 on_stored P s p i v kept refused = cases (number_at s p) refl
   where
     cases : (n : Number) → number_at s p ≡ n → P (stored_by n i v)
-    cases (Value x next) e = kept x next e
-    cases (Refused q) e = refused q
+    cases (Ok (x, next)) e = kept x next e
+    cases (Err q) e = refused q
 
 -- a field is not there, is stored, or its number is refused
 pub on_taken : (P : Reading Stopped (Placed (List ℕ)) → Type 0) (d : Domain) (s : List ℕ) (p i : ℕ) (v : List ℕ)
     → (is_present d v ≡ false → P (got (placed v p)))
-    → ((x next : ℕ) → is_present d v ≡ true → number_at s p ≡ Value x next → P (got (placed (set v i x) next)))
+    → ((x next : ℕ) → is_present d v ≡ true → number_at s p ≡ Ok (x, next) → P (got (placed (set v i x) next)))
     → ((q : Question) → P (no (stopped q v))) → P (if is_present d v then stored s p i v else got (placed v p))
 on_taken P d s p i v absent kept refused =
     if_case P (is_present d v) _ _ (λ a. on_stored P s p i v (λ x next n. kept x next a n) refused) absent
@@ -121,23 +118,23 @@ module _ (s : List ℕ) (p end i : ℕ) (v : List ℕ) where
     one_more : end - i ≡ suc (end - (i + 1))
     one_more = omega arith
 
-    pub row_refused : (q : Question) → number_at s p ≡ Refused q → taken_row (end - i) s p i v ≡ no (stopped q v)
+    pub row_refused : (q : Question) → number_at s p ≡ Err q → taken_row (end - i) s p i v ≡ no (stopped q v)
     unfolding taken_row stored
     row_refused q e = rw (one_more, e)
 
-    pub row_stored : (x next : ℕ) → number_at s p ≡ Value x next → taken_row (end - i) s p i v ≡ taken_row (end - (i + 1)) s next (i + 1) (set v i x)
+    pub row_stored : (x next : ℕ) → number_at s p ≡ Ok (x, next) → taken_row (end - i) s p i v ≡ taken_row (end - (i + 1)) s next (i + 1) (set v i x)
     unfolding taken_row stored
     row_stored x next e = rw (one_more, e)
 
 -- a row that was refused or taken, and what follows it
 module _ (n : FieldsEnd) (v : List ℕ) (o : Reading Stopped (Placed (List ℕ))) (was : fields_end_of n v ≡ o) (f : Placed (List ℕ) → Reading Stopped (Placed (List ℕ))) where
-  pub then_refused : (q : Question) → n ≡ ends.Refused q → and_then o f ≡ no (stopped q v)
+  pub then_refused : (q : Question) → n ≡ Err q → and_then o f ≡ no (stopped q v)
   then_refused q e = rw (← was, e)
 
-  pub then_on : (next : ℕ) → n ≡ To next → and_then o f ≡ f (placed v next)
+  pub then_on : (next : ℕ) → n ≡ Ok next → and_then o f ≡ f (placed v next)
   then_on next e = rw (← was, e)
 
-pub end_got : (n : FieldsEnd) (v : List ℕ) (o : Reading Stopped (Placed (List ℕ))) → fields_end_of n v ≡ o → (next : ℕ) → n ≡ To next → o ≡ got (placed v next)
+pub end_got : (n : FieldsEnd) (v : List ℕ) (o : Reading Stopped (Placed (List ℕ))) → fields_end_of n v ≡ o → (next : ℕ) → n ≡ Ok next → o ≡ got (placed v next)
 end_got n v o was next e = rw (← was, e)
 
 -- ---- Rows.

@@ -17,22 +17,15 @@ use field_table::{
     COMPRESSION_GROUPS, MESH_FIELDS, MemberKind, TENSION_COUNT, TENSION_GROUPS, beam_field_count,
     field_count, field_of,
 };
-use question::{Question, Verdict};
-use varint::{Number, number_at};
+use question::Question;
+use varint::number_at;
 
 // Fields validated so far: refused, or the slots and the place after the last field.
 #[derive(Clone, Copy)]
 pub struct FieldsRead {
-    pub verdict: Verdict,
+    pub verdict: Result<(), Question>,
     pub next: usize,
     pub slots: Slots,
-}
-
-// Where numbers taken into slots end: the place after them, or the refusal of one.
-#[derive(Clone, Copy)]
-pub enum FieldsEnd {
-    To(usize),
-    Refused(Question),
 }
 
 fn no_slots() -> Slots
@@ -45,23 +38,23 @@ fn refused_fields(q: Question) -> FieldsRead
     ensures { result ≡ fields_read_of (no q) }
 {
     FieldsRead {
-        verdict: Verdict::Refused(q),
+        verdict: Err(q),
         next: 0,
         slots: no_slots(),
     }
 }
 
 // The field at `at`: questions 2, 3 and 7.
-fn validate_field(src: &[u8], at: usize, d: Domain) -> Number
+fn validate_field(src: &[u8], at: usize, d: Domain) -> Result<(u32, usize), Question>
     ensures { of_number result ≡ checked Question.Field (holds d) src.now at }
 {
     match number_at(src, at) {
-        Number::Refused(q) => Number::Refused(q),
-        Number::Value(x, next) => {
+        Err(q) => Err(q),
+        Ok((x, next)) => {
             if domain_holds(d, x) {
-                Number::Value(x, next)
+                Ok((x, next))
             } else {
-                Number::Refused(Question::Field)
+                Err(Question::Field)
             }
         }
     }
@@ -79,8 +72,8 @@ pub fn validate_fields(src: &[u8], at: usize, kind: MemberKind) -> FieldsRead
         let d = field_of(kind, i);
         if field_present(d, &v) {
             match validate_field(src, p, d) {
-                Number::Refused(q) => return refused_fields(q),
-                Number::Value(x, next) => {
+                Err(q) => return refused_fields(q),
+                Ok((x, next)) => {
                     v[i] = x;
                     p = next;
                     i += 1;
@@ -92,14 +85,14 @@ pub fn validate_fields(src: &[u8], at: usize, kind: MemberKind) -> FieldsRead
     }
     let slots = Slots { v };
     FieldsRead {
-        verdict: Verdict::Accepted,
+        verdict: Ok(()),
         next: p,
         slots,
     }
 }
 
 // The numbers from `at` on into the slots from `from` up to `end`: the place after them.
-fn take_row(src: &[u8], at: usize, v: &mut [u32; 40], from: usize, end: usize) -> FieldsEnd
+fn take_row(src: &[u8], at: usize, v: &mut [u32; 40], from: usize, end: usize) -> Result<usize, Question>
     requires { (from ≤ end) × (end ≤ 40) }
     ensures { fields_end_of result v.new ≡ taken_row (end - from) src.now at from v.old }
 {
@@ -107,15 +100,15 @@ fn take_row(src: &[u8], at: usize, v: &mut [u32; 40], from: usize, end: usize) -
     let mut i = from;
     while i < end {
         match number_at(src, p) {
-            Number::Refused(q) => return FieldsEnd::Refused(q),
-            Number::Value(x, next) => {
+            Err(q) => return Err(q),
+            Ok((x, next)) => {
                 v[i] = x;
                 p = next;
                 i += 1;
             }
         }
     }
-    FieldsEnd::To(p)
+    Ok(p)
 }
 
 // The number of groups that a count names: a list has four at most.
@@ -126,7 +119,7 @@ pub fn at_most_four(count: u32) -> usize
 }
 
 // The groups of a list whose count stands in slot k.
-fn take_list(src: &[u8], at: usize, v: &mut [u32; 40], k: usize) -> FieldsEnd
+fn take_list(src: &[u8], at: usize, v: &mut [u32; 40], k: usize) -> Result<usize, Question>
     requires { k ≤ 31 }
     ensures { fields_end_of result v.new ≡ taken (groups k) src.now at (k + 1) v.old }
 {
@@ -135,36 +128,36 @@ fn take_list(src: &[u8], at: usize, v: &mut [u32; 40], k: usize) -> FieldsEnd
 }
 
 // What follows a beam's lists: links, cover, span, loads, environment, strict, and a under a point load.
-fn take_after_lists(src: &[u8], at: usize, pointLoad: bool, v: &mut [u32; 40]) -> FieldsEnd
+fn take_after_lists(src: &[u8], at: usize, pointLoad: bool, v: &mut [u32; 40]) -> Result<usize, Question>
     ensures { fields_end_of result v.new ≡ taken (drop beam_links (beam_fields_of pointLoad)) src.now at beam_links v.old }
 {
     take_row(src, at, v, BEAM_LINKS, beam_field_count(pointLoad))
 }
 
 // The fields of a beam.
-fn take_beam(src: &[u8], at: usize, pointLoad: bool, v: &mut [u32; 40]) -> FieldsEnd
+fn take_beam(src: &[u8], at: usize, pointLoad: bool, v: &mut [u32; 40]) -> Result<usize, Question>
     ensures { fields_end_of result v.new ≡ taken (beam_fields_of pointLoad) src.now at 0 v.old }
 {
     match take_row(src, at, v, 0, TENSION_GROUPS) {
-        FieldsEnd::Refused(q) => FieldsEnd::Refused(q),
-        FieldsEnd::To(tension) => match take_list(src, tension, v, TENSION_COUNT) {
-            FieldsEnd::Refused(q) => FieldsEnd::Refused(q),
-            FieldsEnd::To(count) => match take_row(
+        Err(q) => Err(q),
+        Ok(tension) => match take_list(src, tension, v, TENSION_COUNT) {
+            Err(q) => Err(q),
+            Ok(count) => match take_row(
                 src,
                 count,
                 v,
                 COMPRESSION_COUNT,
                 COMPRESSION_GROUPS,
             ) {
-                FieldsEnd::Refused(q) => FieldsEnd::Refused(q),
-                FieldsEnd::To(compression) => match take_list(
+                Err(q) => Err(q),
+                Ok(compression) => match take_list(
                     src,
                     compression,
                     v,
                     COMPRESSION_COUNT,
                 ) {
-                    FieldsEnd::Refused(q) => FieldsEnd::Refused(q),
-                    FieldsEnd::To(links) => take_after_lists(src, links, pointLoad, v),
+                    Err(q) => Err(q),
+                    Ok(links) => take_after_lists(src, links, pointLoad, v),
                 },
             },
         },
@@ -172,20 +165,20 @@ fn take_beam(src: &[u8], at: usize, pointLoad: bool, v: &mut [u32; 40]) -> Field
 }
 
 // The fields of a column.
-fn take_column(src: &[u8], at: usize, v: &mut [u32; 40]) -> FieldsEnd
+fn take_column(src: &[u8], at: usize, v: &mut [u32; 40]) -> Result<usize, Question>
     ensures { fields_end_of result v.new ≡ taken column_fields src.now at 0 v.old }
 {
     match take_row(src, at, v, 0, COLUMN_GROUPS) {
-        FieldsEnd::Refused(q) => FieldsEnd::Refused(q),
-        FieldsEnd::To(groups) => match take_list(src, groups, v, COLUMN_COUNT) {
-            FieldsEnd::Refused(q) => FieldsEnd::Refused(q),
-            FieldsEnd::To(links) => take_row(src, links, v, COLUMN_LINKS, COLUMN_FIELDS),
+        Err(q) => Err(q),
+        Ok(groups) => match take_list(src, groups, v, COLUMN_COUNT) {
+            Err(q) => Err(q),
+            Ok(links) => take_row(src, links, v, COLUMN_LINKS, COLUMN_FIELDS),
         },
     }
 }
 
 // The fields of a kind from `at` on, into v: the place after them, or the refusal of a number.
-pub fn take_fields(src: &[u8], at: usize, kind: MemberKind, v: &mut [u32; 40]) -> FieldsEnd
+pub fn take_fields(src: &[u8], at: usize, kind: MemberKind, v: &mut [u32; 40]) -> Result<usize, Question>
     ensures { fields_end_of result v.new ≡ taken (fields_of kind) src.now at 0 v.old }
 {
     match kind {

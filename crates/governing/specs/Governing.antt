@@ -1,21 +1,23 @@
 -- The largest utilization that was reached, or none.
 -- "The governing share is a double or the plain word none; the largest wins" (document 01, "Shares for the viewer").
-use Rattle.std.specs.Prelude.{◌≡◌, Bool, true, false, List, [], ◌∷◌, ◌⊎◌, T, Float, if◌then◌else◌}
+use Rattle.std.specs.Prelude.{◌≡◌, Bool, true, false, List, [], ◌∷◌, ◌⊎◌, T, Float, if◌then◌else◌, None, Some, Option}
 use Rattle.std.specs.Float.Ieee.{lt, le}
 use Rattle.quantity.specs.All.{All}
 use Rattle.ratio.specs.declared.Ratio.{Ratio}
 use Rattle.ratio.specs.declared.Utilization.{Utilization}
 use Rattle.ratio.specs.Ratio.{finite_nonneg}
-use Rattle.governing.specs.declared.Governing.{Governing}
-use Rattle.governing.specs.declared.Governing.TheVariants.{Largest, None}
 
 -- a double, or none
 pub data DoubleOrNone : Type 0 where
   double : Float → DoubleOrNone
   none : DoubleOrNone
 
+-- as the code has it
+abbrev pub Governing : Type 0
+Governing = Option Float
+
 abbrev pub governing_value : Governing → DoubleOrNone
-governing_value (Largest x) = double x
+governing_value (Some x) = double x
 governing_value None = none
 
 -- ---- The definition.

@@ -6,28 +6,20 @@ ghost use Rattle.governing.specs.Governing.{governing_value, including, Governs}
 
 use ratio::Utilization;
 
-#[derive(Clone, Copy)]
-pub enum Governing {
-    // the largest of those reached
-    Largest(f64),
-    // none was reached
-    None,
-}
-
 // One more, which counts where it was reached.
-fn include(g: Governing, reached: bool, value: f64) -> Governing
+fn include(g: Option<f64>, reached: bool, value: f64) -> Option<f64>
     ensures { governing_value result ≡ including (governing_value g) reached value }
 {
     if reached {
         match g {
-            Governing::Largest(most) => {
+            Some(most) => {
                 if most < value {
-                    Governing::Largest(value)
+                    Some(value)
                 } else {
-                    Governing::Largest(most)
+                    Some(most)
                 }
             }
-            Governing::None => Governing::Largest(value),
+            None => Some(value),
         }
     } else {
         g
@@ -35,10 +27,10 @@ fn include(g: Governing, reached: bool, value: f64) -> Governing
 }
 
 // The largest of the utilizations that were reached, or none.
-pub fn governing_of(u: Utilization) -> Governing
+pub fn governing_of(u: Utilization) -> Option<f64>
     ensures { Governs u (governing_value result) }
 {
-    let a = include(Governing::None, u.firstReached, u.first);
+    let a = include(None, u.firstReached, u.first);
     let b = include(a, u.secondReached, u.second);
     let c = include(b, u.thirdReached, u.third);
     include(c, u.fourthReached, u.fourth)

@@ -9,7 +9,7 @@ ghost use Rattle.schedule.specs.Schedule.{schedule_answer};
 ghost use Rattle.held_schedule.specs.HeldSchedule.{record_words, record_at, records_from, record_verdict, record_members, held_members};
 
 use members::Head;
-use question::{Question, Refusal, Verdict};
+use question::{Question, Refusal};
 use schedule::ScheduleAnswer;
 use verdict::built_verdict;
 
@@ -46,7 +46,7 @@ pub fn read_record(words: &[u32], at: usize, v: &mut [u32; 40]) -> Head
 }
 
 // The questions put to the record at word `at`.
-fn record_verdict(words: &[u32], at: usize, before: u32) -> Verdict
+fn record_verdict(words: &[u32], at: usize, before: u32) -> Result<(), Question>
     requires { at + record_words ≤ length words.now }
     ensures { result ≡ record_verdict before (record_at words.now at) }
 {
@@ -55,12 +55,12 @@ fn record_verdict(words: &[u32], at: usize, before: u32) -> Verdict
     if before < r.mark {
         built_verdict(r.mark, r.kind, &v)
     } else {
-        Verdict::Refused(Question::Mark)
+        Err(Question::Mark)
     }
 }
 
 // The same of `count` records, one after the other.
-fn validate_records(words: &[u32], count: u32) -> ScheduleAnswer
+fn validate_records(words: &[u32], count: u32) -> Result<u32, Refusal>
     requires { (count ≤ 500) × (count * record_words ≤ length words.now) }
     ensures { result ≡ schedule_answer (record_members 0 1 (records_from count words.now 0)) }
 {
@@ -70,13 +70,13 @@ fn validate_records(words: &[u32], count: u32) -> ScheduleAnswer
     let mut left = count;
     while 0 < left {
         match record_verdict(words, p, before) {
-            Verdict::Refused(q) => {
-                return ScheduleAnswer::Refused(Refusal {
+            Err(q) => {
+                return Err(Refusal {
                     question: q,
                     member: i,
                 });
             }
-            Verdict::Accepted => {
+            Ok(()) => {
                 before = words[p];
                 p += RECORD_WORDS;
                 i += 1;
@@ -84,16 +84,16 @@ fn validate_records(words: &[u32], count: u32) -> ScheduleAnswer
             }
         }
     }
-    ScheduleAnswer::Accepted(count)
+    Ok(count)
 }
 
 // The validator of a held schedule: every question that is put to it. Words past the last whole record are not read.
-pub fn validate_held(words: &[u32]) -> ScheduleAnswer
+pub fn validate_held(words: &[u32]) -> Result<u32, Refusal>
     ensures { result ≡ schedule_answer (held_members words.now) }
 {
     let count = words.len() / RECORD_WORDS;
     if 500 < count {
-        ScheduleAnswer::Refused(Refusal {
+        Err(Refusal {
             question: Question::Count,
             member: 0,
         })

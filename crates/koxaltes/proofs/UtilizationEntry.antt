@@ -1,4 +1,5 @@
 -- From the answers of crate `utilization` to those that a caller gets.
+use Rattle.std.specs.Prelude.{Err, Ok}
 use mathlib.Core.Path.{◌≡◌, refl, sym, ap, subst, ◌∙◌}
 use mathlib.Core.Bool.{true, false≢true}
 use mathlib.Core.List.{List}
@@ -7,8 +8,7 @@ use lib.Ieee.{Float, le}
 use Rattle.bars.specs.declared.Group.{Group}
 use Rattle.verdict.specs.declared.Built.{Built}
 use Rattle.verdict.specs.Built.{member_of}
-use Rattle.question.specs.declared.Verdict.{Verdict}
-use Rattle.question.specs.declared.Verdict.TheVariants.{Accepted, Refused}
+use Rattle.question.specs.Reading.{Verdict}
 use Rattle.verdict.specs.Verdict.{built_verdict}
 use Rattle.lent_groups.specs.CopiedGroups.{first_four}
 use Rattle.field_table.specs.Fields.{kind_of}
@@ -19,7 +19,7 @@ use Rattle.lent_member.proofs.InSlots.{slots_again, copied, slots, lent_verdict_
 use Rattle.question.proofs.Numbers.{numbered}
 use Rattle.governing.specs.Governing.{DoubleOrNone, double, none, ratios_of, governing_of, Among, FiniteNonneg, Governs}
 use Rattle.governing.proofs.Largest.{governs}
-use Rattle.utilization.specs.declared.UtilizationAnswer.{UtilizationAnswer}
+use Rattle.utilization.specs.Utilized.{UtilizationAnswer}
 use Rattle.utilization.specs.Utilized.{Values, values_of, utilization_by, utilization_answer, Utilized}
 use Rattle.answer_record.specs.declared.UtilizationRecord.{UtilizationRecord}
 use Rattle.answer_record.specs.UtilizationRecord.{with_governing, utilization_record}
@@ -77,16 +77,16 @@ module _ (x : Lent) (first second : List Group) where
   lent_utilization = rw (← lent_verdict_lem x first second) (of_verdict (built_verdict x.mark x.kind (slots x first second)) refl)
     where
       of_verdict : (w : Verdict) → built_verdict x.mark x.kind (slots x first second) ≡ w → utilization_by w (member_of (copied x first second)) ≡ utilization_by w (lent_member x first second)
-      of_verdict Accepted e = ap (utilization_by Accepted) (lent_member_lem x first second e)
-      of_verdict (Refused q) e = refl
+      of_verdict (Ok tt) e = ap (utilization_by (Ok tt)) (lent_member_lem x first second e)
+      of_verdict (Err q) e = refl
 
   accepted : {r : UtilizationRecord} → r ≡ utilization_record (utilization_answer (copied x first second)) → r.question ≡ 0 → member_of (copied x first second) ≡ lent_member x first second
   unfolding utilization_answer
   accepted e z = lent_member_lem x first second (of_verdict (built_verdict x.mark x.kind (slots x first second)) (rw e at z))
     where
-      of_verdict : (w : Verdict) → (utilization_record (utilization_by w (member_of (copied x first second)))).question ≡ 0 → w ≡ Accepted
-      of_verdict Accepted h = refl
-      of_verdict (Refused q) h = absurd (numbered q h)
+      of_verdict : (w : Verdict) → (utilization_record (utilization_by w (member_of (copied x first second)))).question ≡ 0 → w ≡ (Ok tt)
+      of_verdict (Ok tt) h = refl
+      of_verdict (Err q) h = absurd (numbered q h)
 
   lent_copied : {r : UtilizationRecord} → UtilizationEntry (utilization_answer (copied x first second)) (member_of (copied x first second)) r → UtilizationEntry (lent_utilization_of x first second) (lent_member x first second) r
   lent_copied {r = r} p =

@@ -8,7 +8,7 @@ ghost use Rattle.line.specs.Line.{figure_word, line_words, head_words, refusal_w
 
 use check_name::name_of;
 use decimal::put_decimal;
-use outcome::{Figure, Outcome};
+use outcome::Outcome;
 use text::{Word, put_byte, put_word, word_of};
 
 // The word `w` and the separator after it.
@@ -28,12 +28,12 @@ fn put_number(out: &mut [u8], at: usize, v: u64, separator: u8) -> usize
 }
 
 // The figure `f` and the separator after it.
-fn put_figure(out: &mut [u8], at: usize, f: Figure, separator: u8) -> usize
+fn put_figure(out: &mut [u8], at: usize, f: Option<u64>, separator: u8) -> usize
     ensures { Put out.old at (figure_word f ++ (separator ∷ [])) out.new result }
 {
     match f {
-        Figure::Reached(v) => put_number(out, at, v, separator),
-        Figure::Unreached => {
+        Some(v) => put_number(out, at, v, separator),
+        None => {
             let p = put_byte(out, at, b'-');
             put_byte(out, p, separator)
         }

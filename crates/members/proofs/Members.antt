@@ -1,4 +1,5 @@
 -- The steps of reading members, as the code takes them.
+use Rattle.std.specs.Prelude.{Err, Ok}
 use Prim.Native.Nat.{ℕ, zero, suc, ◌+◌, ◌-◌, ◌≤◌, ◌<◌}
 use mathlib.Core.Path.{◌≡◌, refl, sym, ap, ◌∙◌}
 use mathlib.Core.List.{List, [], ◌∷◌}
@@ -6,14 +7,12 @@ use native.Mathlib.Omega.{arith}
 use lib.ListN.{length}
 use Rattle.question.specs.declared.Question.{Question}
 use Rattle.question.specs.declared.Refusal.{Refusal}
-use Rattle.varint.specs.declared.Number.{Number}
-use Rattle.varint.specs.declared.Number.TheVariants.{Value, Refused}
+use Rattle.varint.specs.Varint.{Number}
 use Rattle.member.specs.Member.{Member}
 use Rattle.field_table.specs.declared.MemberKind.{MemberKind}
 use Rattle.field_table.specs.Fields.{kind_of, fields_of}
 use Rattle.verdict.specs.declared.Built.{Built}
-use Rattle.question.specs.declared.Verdict.{Verdict}
-use Rattle.question.specs.declared.Verdict.TheVariants as verdicts
+use Rattle.question.specs.Reading.{Verdict}
 use Rattle.verdict.specs.Built.{member_of}
 use Rattle.verdict.specs.Verdict.{member_verdict}
 use Rattle.members.specs.declared.MemberValidated.{MemberValidated}
@@ -25,10 +24,10 @@ use Rattle.members.specs.MembersResult.{validated_of, marked, members_end}
 
 -- ---- A member.
 
-pub read_got : (r : MemberValidated) → r.verdict ≡ verdicts.Accepted → validated_of r ≡ got (placed r.mark r.next)
+pub read_got : (r : MemberValidated) → r.verdict ≡ (Ok tt) → validated_of r ≡ got (placed r.mark r.next)
 read_got r e = rw e
 
-pub read_no : (r : MemberValidated) (q : Question) → r.verdict ≡ verdicts.Refused q → validated_of r ≡ no q
+pub read_no : (r : MemberValidated) (q : Question) → r.verdict ≡ Err q → validated_of r ≡ no q
 read_no r q e = rw e
 
 -- what the mark of a reading says of it
@@ -62,20 +61,20 @@ module _ (mark number : ℕ) (kind : MemberKind) (is : kind ≡ kind_of number) 
   body_passed v next e = rw (← is, e) (on_verdict (member_verdict kind v))
     where
       on_verdict : (t : Verdict) → marked (passed t (got (placed (record { mark = mark; kind = number; fields = record { v = v } }) next))) ≡ passed t (got (placed mark next))
-      on_verdict verdicts.Accepted = refl
-      on_verdict (verdicts.Refused q) = refl
+      on_verdict (Ok tt) = refl
+      on_verdict (Err q) = refl
 
 module _ (s : List ℕ) (p before : ℕ) where
-  pub mark_refused : (n : Number) (q : Question) → of_number n ≡ mark_at s p before → n ≡ Refused q → member s p before ≡ no q
+  pub mark_refused : (n : Number) (q : Question) → of_number n ≡ mark_at s p before → n ≡ Err q → member s p before ≡ no q
   unfolding member
   mark_refused n q e f = rw (sym e ∙ ap of_number f)
 
-  module _ (n : Number) (mark at : ℕ) (e : of_number n ≡ mark_at s p before) (f : n ≡ Value mark at) where
-    pub kind_refused : (k : Number) (q : Question) → of_number k ≡ kind_at s at → k ≡ Refused q → member s p before ≡ no q
+  module _ (n : Number) (mark at : ℕ) (e : of_number n ≡ mark_at s p before) (f : n ≡ Ok (mark, at)) where
+    pub kind_refused : (k : Number) (q : Question) → of_number k ≡ kind_at s at → k ≡ Err q → member s p before ≡ no q
     unfolding member
     kind_refused k q g h = rw (sym e ∙ ap of_number f, sym g ∙ ap of_number h)
 
-    pub member_body_lem : (k : Number) (kind next : ℕ) → of_number k ≡ kind_at s at → k ≡ Value kind next → member s p before ≡ member_body mark kind s next
+    pub member_body_lem : (k : Number) (kind next : ℕ) → of_number k ≡ kind_at s at → k ≡ Ok (kind, next) → member s p before ≡ member_body mark kind s next
     unfolding member
     member_body_lem k kind next g h = rw (sym e ∙ ap of_number f, sym g ∙ ap of_number h)
 

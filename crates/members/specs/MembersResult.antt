@@ -1,14 +1,11 @@
 -- What the code's results say, in the terms of the definitions.
-use Rattle.std.specs.Prelude.{ℕ, List}
+use Rattle.std.specs.Prelude.{ℕ, List, Err, Ok, Result}
 use Rattle.question.specs.declared.Question.{Question}
 use Rattle.question.specs.declared.Refusal.{Refusal}
 use Rattle.member.specs.Member.{Member}
 use Rattle.verdict.specs.declared.Built.{Built}
 use Rattle.members.specs.declared.MemberValidated.{MemberValidated}
 use Rattle.members.specs.declared.Head.{Head}
-use Rattle.members.specs.declared.MembersEnd.{MembersEnd}
-use Rattle.members.specs.declared.MembersEnd.TheVariants.{At}
-use Rattle.members.specs.declared.MembersEnd.TheVariants as ends
 use Rattle.question.specs.Reading.{Reading, got, no, passed}
 use Rattle.field_validator.specs.Placed.{Placed, placed}
 
@@ -24,9 +21,13 @@ marked (no q) = no q
 abbrev pub headed : Head → List ℕ → Built
 headed r v = record { mark = r.mark; kind = r.kind; fields = record { v = v } }
 
+-- where a row of members ends, or the refusal
+abbrev pub MembersEnd : Type 0
+MembersEnd = Result ℕ Refusal
+
 abbrev pub members_end_of : MembersEnd → Reading Refusal ℕ
-members_end_of (At p) = got p
-members_end_of (ends.Refused r) = no r
+members_end_of (Ok p) = got p
+members_end_of (Err r) = no r
 
 -- where a row of members ends
 abbrev pub members_end : Reading Refusal (Placed (List Member)) → Reading Refusal ℕ

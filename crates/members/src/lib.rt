@@ -12,16 +12,16 @@ ghost use Rattle.members.specs.MembersResult.{validated_of, marked, headed, memb
 use field_check::fields_hold;
 use field_reader::{read_fields, read_number};
 use field_table::{is_known, kind_of};
-use field_validator::{FieldsEnd, take_fields, validate_fields};
+use field_validator::{take_fields, validate_fields};
 use quantity::and;
-use question::{Question, Refusal, Verdict};
-use varint::{Number, number_at};
+use question::{Question, Refusal};
+use varint::number_at;
 use verdict::{mark_in_range, member_verdict};
 
 // A member validated: refused, or its mark and the place after it.
 #[derive(Clone, Copy)]
 pub struct MemberValidated {
-    pub verdict: Verdict,
+    pub verdict: Result<(), Question>,
     pub mark: u32,
     pub next: usize,
 }
@@ -34,18 +34,11 @@ pub struct Head {
     pub next: usize,
 }
 
-// Where a row of members ends, or the refusal.
-#[derive(Clone, Copy)]
-pub enum MembersEnd {
-    At(usize),
-    Refused(Refusal),
-}
-
 fn refused_member(q: Question) -> MemberValidated
     ensures { validated_of result ≡ no q }
 {
     MemberValidated {
-        verdict: Verdict::Refused(q),
+        verdict: Err(q),
         mark: 0,
         next: 0,
     }
@@ -61,8 +54,8 @@ fn validate_one_by_one(src: &[u8], at: usize, mark: u32, number: u32) -> MemberV
     let fields = run.slots;
     let v = fields.v;
     match verdict {
-        Verdict::Refused(q) => refused_member(q),
-        Verdict::Accepted => MemberValidated {
+        Err(q) => refused_member(q),
+        Ok(()) => MemberValidated {
             verdict: member_verdict(kind, &v),
             mark,
             next: run.next,
@@ -77,8 +70,8 @@ fn validate_body(src: &[u8], at: usize, mark: u32, number: u32) -> MemberValidat
     let kind = kind_of(number);
     let mut v = [0u32; 40];
     match take_fields(src, at, kind, &mut v) {
-        FieldsEnd::Refused(_) => validate_one_by_one(src, at, mark, number),
-        FieldsEnd::To(next) => {
+        Err(_) => validate_one_by_one(src, at, mark, number),
+        Ok(next) => {
             if fields_hold(kind, &v) {
                 MemberValidated {
                     verdict: member_verdict(kind, &v),
@@ -100,32 +93,32 @@ fn mark_rises(before: u32, mark: u32) -> bool
 }
 
 // The mark at `at`: questions 2, 3 and 5.
-fn validate_mark(src: &[u8], at: usize, before: u32) -> Number
+fn validate_mark(src: &[u8], at: usize, before: u32) -> Result<(u32, usize), Question>
     ensures { of_number result ≡ mark_at src.now at before }
 {
     match number_at(src, at) {
-        Number::Refused(q) => Number::Refused(q),
-        Number::Value(x, next) => {
+        Err(q) => Err(q),
+        Ok((x, next)) => {
             if mark_rises(before, x) {
-                Number::Value(x, next)
+                Ok((x, next))
             } else {
-                Number::Refused(Question::Mark)
+                Err(Question::Mark)
             }
         }
     }
 }
 
 // The kind at `at`: questions 2, 3 and 6.
-fn validate_kind(src: &[u8], at: usize) -> Number
+fn validate_kind(src: &[u8], at: usize) -> Result<(u32, usize), Question>
     ensures { of_number result ≡ kind_at src.now at }
 {
     match number_at(src, at) {
-        Number::Refused(q) => Number::Refused(q),
-        Number::Value(x, next) => {
+        Err(q) => Err(q),
+        Ok((x, next)) => {
             if is_known(x) {
-                Number::Value(x, next)
+                Ok((x, next))
             } else {
-                Number::Refused(Question::Kind)
+                Err(Question::Kind)
             }
         }
     }
@@ -136,10 +129,10 @@ fn validate_member(src: &[u8], at: usize, before: u32) -> MemberValidated
     ensures { validated_of result ≡ marked (member src.now at before) }
 {
     match validate_mark(src, at, before) {
-        Number::Refused(q) => refused_member(q),
-        Number::Value(mark, p) => match validate_kind(src, p) {
-            Number::Refused(q) => refused_member(q),
-            Number::Value(number, next) => validate_body(src, next, mark, number),
+        Err(q) => refused_member(q),
+        Ok((mark, p)) => match validate_kind(src, p) {
+            Err(q) => refused_member(q),
+            Ok((number, next)) => validate_body(src, next, mark, number),
         },
     }
 }
@@ -160,7 +153,7 @@ pub fn read_member(src: &[u8], at: usize, v: &mut [u32; 40]) -> Head
 }
 
 // `count` members from `at` on: where they end, or the refusal.
-pub fn validate_members(src: &[u8], at: usize, count: u32) -> MembersEnd
+pub fn validate_members(src: &[u8], at: usize, count: u32) -> Result<usize, Refusal>
     requires { count ≤ 500 }
     ensures { members_end_of result ≡ members_end (members count src.now at 0 1) }
 {
@@ -172,13 +165,13 @@ pub fn validate_members(src: &[u8], at: usize, count: u32) -> MembersEnd
         let r = validate_member(src, p, before);
         let verdict = r.verdict;
         match verdict {
-            Verdict::Refused(q) => {
-                return MembersEnd::Refused(Refusal {
+            Err(q) => {
+                return Err(Refusal {
                     question: q,
                     member: i,
                 });
             }
-            Verdict::Accepted => {
+            Ok(()) => {
                 p = r.next;
                 before = r.mark;
                 i += 1;
@@ -186,5 +179,5 @@ pub fn validate_members(src: &[u8], at: usize, count: u32) -> MembersEnd
             }
         }
     }
-    MembersEnd::At(p)
+    Ok(p)
 }

@@ -13,8 +13,8 @@ pub fn print_schedule(src: &[u8], out: &mut [u8]) -> usize
     ensures { PrintedSchedule src.now out.old out.new result }
 {
     match report(src, out) {
-        TextAnswer::Written(n) => n,
-        TextAnswer::Refused(r) => {
+        Ok(n) => n,
+        Err(r) => {
             let question = r.question;
             put_refusal(out, 0, number_of(question), r.member)
         }

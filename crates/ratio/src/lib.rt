@@ -60,24 +60,24 @@ fn ratio_of(a: u64, b: u64) -> Ratio
 }
 
 // A capacity's: demand over figure.
-pub fn over_figure(demand: u64, f: Figure) -> Ratio
+pub fn over_figure(demand: u64, f: Option<u64>) -> Ratio
     requires { (demand < 2 ^ 53) × (ExactFigure f) }
     ensures { result ≡ over_figure quotient demand f }
 {
     match f {
-        Figure::Reached(v) => ratio_of(demand, v),
-        Figure::Unreached => no_ratio(),
+        Some(v) => ratio_of(demand, v),
+        None => no_ratio(),
     }
 }
 
 // Of a width, a deflection or a length: figure over limit.
-pub fn over_limit(f: Figure, limit: u64) -> Ratio
+pub fn over_limit(f: Option<u64>, limit: u64) -> Ratio
     requires { (ExactFigure f) × (limit < 2 ^ 53) }
     ensures { result ≡ over_limit quotient f limit }
 {
     match f {
-        Figure::Reached(v) => ratio_of(v, limit),
-        Figure::Unreached => no_ratio(),
+        Some(v) => ratio_of(v, limit),
+        None => no_ratio(),
     }
 }
 

@@ -1,4 +1,5 @@
 -- Demand 3 of a text in the buffer, and how the validator's answer picks the case.
+use Rattle.std.specs.Prelude.{Err, Ok}
 use Prim.Native.Nat.{ℕ, suc}
 use mathlib.Core.Path.{◌≡◌, refl, ap, ◌∙◌}
 use mathlib.Core.List.{List, ◌++◌}
@@ -17,8 +18,6 @@ use Rattle.member.specs.Member.{Member}
 use Rattle.member.specs.Accepted.{AcceptedMember, AcceptedMembers}
 use Rattle.field_table.specs.Fields.{kind_of}
 use Rattle.verdict.specs.declared.Built.{Built}
-use Rattle.question.specs.declared.Verdict.TheVariants.{Accepted}
-use Rattle.question.specs.declared.Verdict.TheVariants as verdicts
 use Rattle.verdict.specs.Built.{member_of}
 use Rattle.verdict.specs.Verdict.{built_verdict}
 use Rattle.verdict.proofs.Accepted.{accepted_built}
@@ -26,13 +25,11 @@ use Rattle.question.specs.Reading.{Reading, got, refusal}
 use Rattle.question.specs.Reading as reading
 use Rattle.schedule.specs.Schedule.{schedule}
 use Rattle.schedule.specs.Schedule.{schedule_answer}
-use Rattle.schedule.specs.declared.ScheduleAnswer.TheVariants as validated
 use Rattle.members.proofs.Members.{members_length}
 use Rattle.schedule.proofs.Accepted.{schedule_read, schedule_accepted}
 use Rattle.checks.specs.MemberOutcome.{mark_of, outcome_of}
 use Rattle.checks.proofs.Safe.{line_safe}
-use Rattle.text_answer.specs.declared.TextAnswer.{TextAnswer}
-use Rattle.text_answer.specs.declared.TextAnswer.TheVariants.{Refused}
+use Rattle.text_answer.specs.Printed.{TextAnswer}
 use Rattle.report_text.specs.ReportText.{report_text, member_text, AcceptedFrom, lines_from}
 use Rattle.text_answer.specs.Printed.{text_too_long, Printed}
 use Rattle.report.specs.Report.{report_of, member_report_of, after_number}
@@ -62,7 +59,7 @@ reported s d d' a ms e p =
           rw (← same) (rw (text_written _ (report_text ms) d d' a p w) (report_safe ms (schedule_accepted s ms e).0));
     }
 
-pub refused : (s d : List ℕ) (r : Refusal) → schedule s ≡ reading.no r → Reported s d d (Refused r)
+pub refused : (s d : List ℕ) (r : Refusal) → schedule s ≡ reading.no r → Reported s d d (Err r)
 unfolding report_of
 refused s d r e =
     record {
@@ -73,7 +70,7 @@ refused s d r e =
 
 -- ---- How the validator's answer picks the case.
 
-pub validated_no : (o : Reading Refusal (List Member)) (r : Refusal) → validated.Refused r ≡ schedule_answer o → o ≡ reading.no r
+pub validated_no : (o : Reading Refusal (List Member)) (r : Refusal) → Err r ≡ schedule_answer o → o ≡ reading.no r
 validated_no (got ms) r e = absurd (let z : ◌≡◌ {A = ℕ} 0 1 = cc in omega arith)
 validated_no (reading.no q) r e = cc
 
@@ -83,7 +80,7 @@ record Read (s : List ℕ) (count at : ℕ) : Type 0 where
   accepted : AcceptedFrom count s at
   text : line_text (head_words count) ++ lines_from count s at ≡ report_text ms
 
-read_of : (s : List ℕ) (o : Reading Refusal (List Member)) (count at : ℕ) → schedule s ≡ o → validated.Accepted count ≡ schedule_answer o →
+read_of : (s : List ℕ) (o : Reading Refusal (List Member)) (count at : ℕ) → schedule s ≡ o → Ok count ≡ schedule_answer o →
     at ≡ after_number (number_at s 0) → Read s count at
 read_of s (got ms) count at e a p =
     let f = schedule_read s ms e in
@@ -99,10 +96,10 @@ read_of s (got ms) count at e a p =
     }
 read_of s (reading.no r) count at e a p = absurd (let z : ◌≡◌ {A = ℕ} 0 1 = cc in omega arith)
 
-pub validated_accepted : (s : List ℕ) (count at : ℕ) → validated.Accepted count ≡ schedule_answer (schedule s) → at ≡ after_number (number_at s 0) → AcceptedFrom count s at
+pub validated_accepted : (s : List ℕ) (count at : ℕ) → Ok count ≡ schedule_answer (schedule s) → at ≡ after_number (number_at s 0) → AcceptedFrom count s at
 validated_accepted s count at e p = (read_of s (schedule s) count at refl e p).accepted
 
-pub validated_yes : (s d d' : List ℕ) (a : TextAnswer) (count at : ℕ) → validated.Accepted count ≡ schedule_answer (schedule s) →
+pub validated_yes : (s d d' : List ℕ) (a : TextAnswer) (count at : ℕ) → Ok count ≡ schedule_answer (schedule s) →
     at ≡ after_number (number_at s 0) → Printed (text_too_long 0) (line_text (head_words count) ++ lines_from count s at) d d' a → Reported s d d' a
 validated_yes s d d' a count at e p w =
     let r = read_of s (schedule s) count at refl e p in
@@ -111,7 +108,7 @@ validated_yes s d d' a count at e p w =
 -- ---- A built member.
 
 module _ (x : Built) where
-  pub member_reported : (d d' : List ℕ) (a : TextAnswer) → built_verdict x.mark x.kind x.fields.v ≡ Accepted →
+  pub member_reported : (d d' : List ℕ) (a : TextAnswer) → built_verdict x.mark x.kind x.fields.v ≡ (Ok tt) →
       Printed (text_too_long 1) (member_text (member_of x)) d d' a → MemberReported x d d' a
   unfolding member_report_of
   member_reported d d' a e p =
@@ -127,8 +124,8 @@ module _ (x : Built) where
       Printed (text_too_long 1) (line_text (line_words x.mark o)) d d' a → Printed (text_too_long 1) (member_text (member_of x)) d d' a
   printed_member o e p = rw (mark_of_lem x.mark (kind_of x.kind) x.fields.v, ← e) p
 
-  pub member_refused : (d : List ℕ) (q : Question) → built_verdict x.mark x.kind x.fields.v ≡ verdicts.Refused q →
-      MemberReported x d d (Refused (refusal q 1))
+  pub member_refused : (d : List ℕ) (q : Question) → built_verdict x.mark x.kind x.fields.v ≡ Err q →
+      MemberReported x d d (Err (refusal q 1))
   unfolding member_report_of
   member_refused d q e =
       record { answer_is = rw e (refused_is (text_too_long 1) (refusal q 1) d).0; buffer_is = rw e (refused_is (text_too_long 1) (refusal q 1) d).1; claim = λ w. absurd (numbered q w) }

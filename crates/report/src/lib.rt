@@ -8,11 +8,11 @@ ghost use Rattle.report.specs.ReportClaim.{Reported, MemberReported};
 
 use checks::check_member;
 use field_table::kind_of;
-use question::{Refusal, Verdict};
+use question::Refusal;
 use report_text::print_report;
 use schedule::validate_schedule;
-use text_answer::{TextAnswer, print_line};
-use varint::{Number, number_at};
+use text_answer::print_line;
+use varint::number_at;
 use verdict::{Built, built_verdict};
 
 // Where the members start: after their count.
@@ -20,18 +20,18 @@ fn members_start(src: &[u8]) -> usize
     ensures { result ≡ after_number (number_at src.now 0) }
 {
     match number_at(src, 0) {
-        Number::Value(_, next) => next,
-        Number::Refused(_) => 0,
+        Ok((_, next)) => next,
+        Err(_) => 0,
     }
 }
 
 // The report of a schedule's bytes.
-pub fn report(src: &[u8], out: &mut [u8]) -> TextAnswer
+pub fn report(src: &[u8], out: &mut [u8]) -> Result<usize, Refusal>
     ensures { Reported src.now out.old out.new result }
 {
     match validate_schedule(src) {
-        schedule::ScheduleAnswer::Refused(r) => TextAnswer::Refused(r),
-        schedule::ScheduleAnswer::Accepted(count) => print_report(
+        Err(r) => Err(r),
+        Ok(count) => print_report(
             src,
             members_start(src),
             count,
@@ -41,15 +41,15 @@ pub fn report(src: &[u8], out: &mut [u8]) -> TextAnswer
 }
 
 // The line of a member that a caller built.
-pub fn member_report(x: Built, out: &mut [u8]) -> TextAnswer
+pub fn member_report(x: Built, out: &mut [u8]) -> Result<usize, Refusal>
     ensures { MemberReported x out.old out.new result }
 {
     let v = x.fields.v;
     match built_verdict(x.mark, x.kind, &v) {
-        Verdict::Refused(q) => TextAnswer::Refused(Refusal {
+        Err(q) => Err(Refusal {
             question: q,
             member: 1,
         }),
-        Verdict::Accepted => print_line(x.mark, check_member(x.mark, kind_of(x.kind), &v), out),
+        Ok(()) => print_line(x.mark, check_member(x.mark, kind_of(x.kind), &v), out),
     }
 }

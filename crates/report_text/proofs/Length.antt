@@ -1,4 +1,5 @@
 -- How long a report can be.
+use Rattle.std.specs.Prelude.{Ok}
 use Prim.Native.Nat.{ℕ, zero, suc, ◌+◌, ◌*◌, ◌^◌, ◌≤◌, ◌<◌}
 use mathlib.Core.Path.{◌≡◌, refl}
 use mathlib.Core.List.{List, ◌++◌, map}
@@ -13,7 +14,6 @@ use Rattle.member.specs.Accepted.{AcceptedMember, AcceptedMembers}
 use Rattle.question.specs.declared.Question.{Question}
 use Rattle.field_table.specs.Fields.{kind_of}
 use Rattle.verdict.specs.declared.Built.{Built}
-use Rattle.question.specs.declared.Verdict.TheVariants.{Accepted}
 use Rattle.verdict.specs.Built.{member_of}
 use Rattle.verdict.specs.Verdict.{built_verdict}
 use Rattle.verdict.proofs.Accepted.{accepted_built}
@@ -38,7 +38,7 @@ member_line_short m a =
     let f = member_short m a in
     line_short 6 9 (mark_of m) (outcome_of m) (omega arith) (omega arith) (mark_short m a) f.first f.second f.third f.fourth
 
-pub line_fits : (x : Built) (o : Outcome) → built_verdict x.mark x.kind x.fields.v ≡ Accepted → o ≡ outcome_of (member_of x) →
+pub line_fits : (x : Built) (o : Outcome) → built_verdict x.mark x.kind x.fields.v ≡ (Ok tt) → o ≡ outcome_of (member_of x) →
     length (line_text (line_words x.mark o)) ≤ 55
 line_fits x o v e =
     rw (← mark_of_lem x.mark (kind_of x.kind) x.fields.v, e) (member_line_short (member_of x) (accepted_built x.mark x.kind x.fields.v v))

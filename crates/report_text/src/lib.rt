@@ -12,7 +12,7 @@ use field_table::kind_of;
 use line::{put_head, put_line};
 use members::read_member;
 use question::Question;
-use text_answer::{TextAnswer, no_room};
+use text_answer::no_room;
 
 // The lines of `count` accepted members from `at` on, into the buffer from `to` on: the place after them.
 fn put_members(src: &[u8], at: usize, count: u32, out: &mut [u8], to: usize) -> usize
@@ -42,7 +42,7 @@ fn put_report(src: &[u8], at: usize, count: u32, out: &mut [u8]) -> usize
 }
 
 // The report of `count` accepted members from `at` on. The first run only finds how long it is.
-fn print_measured(src: &[u8], at: usize, count: u32, out: &mut [u8]) -> TextAnswer
+fn print_measured(src: &[u8], at: usize, count: u32, out: &mut [u8]) -> Result<usize, Refusal>
     requires { AcceptedFrom count src.now at }
     ensures { Printed (text_too_long 0) (line_text (head_words count) ++ lines_from count src.now at) out.old out.new result }
 {
@@ -51,17 +51,17 @@ fn print_measured(src: &[u8], at: usize, count: u32, out: &mut [u8]) -> TextAnsw
     if out.len() < n {
         no_room(Question::Buffer, 0)
     } else {
-        TextAnswer::Written(put_report(src, at, count, out))
+        Ok(put_report(src, at, count, out))
     }
 }
 
 // The same. No first line is longer than 19 bytes and no other than 55, so a buffer of that size needs no first run.
-pub fn print_report(src: &[u8], at: usize, count: u32, out: &mut [u8]) -> TextAnswer
+pub fn print_report(src: &[u8], at: usize, count: u32, out: &mut [u8]) -> Result<usize, Refusal>
     requires { AcceptedFrom count src.now at }
     ensures { Printed (text_too_long 0) (line_text (head_words count) ++ lines_from count src.now at) out.old out.new result }
 {
     if 19 + 55 * (count as usize) <= out.len() {
-        TextAnswer::Written(put_report(src, at, count, out))
+        Ok(put_report(src, at, count, out))
     } else {
         print_measured(src, at, count, out)
     }

@@ -1,4 +1,5 @@
 -- The answer to a schedule, at each of the validator's ways out.
+use Rattle.std.specs.Prelude.{Err, Ok}
 use Prim.Native.Nat.{ℕ, ◌≤◌, ◌<◌}
 use mathlib.Core.Path.{◌≡◌, refl, ap, ◌∙◌}
 use mathlib.Core.List.{List}
@@ -9,10 +10,8 @@ use borrow.Author.Tests.{le-leb, lt-leb}
 use Rattle.question.specs.declared.Question.{Question}
 use Rattle.question.specs.declared.Question.TheVariants.{Size, Count, Trailing}
 use Rattle.question.specs.declared.Refusal.{Refusal}
-use Rattle.varint.specs.declared.Number.TheVariants.{Value, Refused}
 use Rattle.varint.specs.Varint.{number_at}
 use Rattle.member.specs.Member.{Member}
-use Rattle.schedule.specs.declared.ScheduleAnswer.TheVariants as answers
 use Rattle.question.specs.Reading.{Reading, got, no, and_then, ask, refusal}
 use Rattle.field_validator.specs.Placed.{Placed}
 use Rattle.members.specs.Members.{members}
@@ -21,17 +20,17 @@ use Rattle.members.specs.MembersResult.{members_end}
 use Rattle.members.proofs.Members.{members_length}
 
 module _ (s : List ℕ) where
-  pub too_long : 60000 < length s → schedule_answer (schedule s) ≡ answers.Refused (refusal Size 0)
+  pub too_long : 60000 < length s → schedule_answer (schedule s) ≡ Err (refusal Size 0)
   unfolding schedule
   too_long h = rw (lt-leb _ _ h)
 
   module _ (short : length s ≤ 60000) where
-    pub no_count : (q : Question) → number_at s 0 ≡ Refused q → schedule_answer (schedule s) ≡ answers.Refused (refusal q 0)
+    pub no_count : (q : Question) → number_at s 0 ≡ Err q → schedule_answer (schedule s) ≡ Err (refusal q 0)
     unfolding schedule
     no_count q e = rw (le-leb _ _ short, e)
 
-    module _ (n at : ℕ) (count : number_at s 0 ≡ Value n at) where
-      pub too_many : 500 < n → schedule_answer (schedule s) ≡ answers.Refused (refusal Count 0)
+    module _ (n at : ℕ) (count : number_at s 0 ≡ Ok (n, at)) where
+      pub too_many : 500 < n → schedule_answer (schedule s) ≡ Err (refusal Count 0)
       unfolding schedule
       too_many h = rw (le-leb _ _ short, count, lt-leb _ _ h)
 
@@ -44,27 +43,27 @@ module _ (s : List ℕ) where
       counted h = rw (le-leb _ _ short, count, le-leb _ _ h)
 
       module _ (few : n ≤ 500) where
-        pub member_no : (r : Refusal) → members_end (members n s at 0 1) ≡ no r → schedule_answer (schedule s) ≡ answers.Refused r
+        pub member_no : (r : Refusal) → members_end (members n s at 0 1) ≡ no r → schedule_answer (schedule s) ≡ Err r
         unfolding after
         member_no r e = ap schedule_answer (counted few) ∙ cases (members n s at 0 1) e
           where
-            cases : (o : Reading Refusal (Placed (List Member))) → members_end o ≡ no r → schedule_answer (after o) ≡ answers.Refused r
+            cases : (o : Reading Refusal (Placed (List Member))) → members_end o ≡ no r → schedule_answer (after o) ≡ Err r
             cases (got ms) e = absurd (let z : ◌≡◌ {A = ℕ} 0 1 = cc in omega arith)
             cases (no t) e = cc
 
-        pub bytes_left : (end : ℕ) → members_end (members n s at 0 1) ≡ got end → end < length s → schedule_answer (schedule s) ≡ answers.Refused (refusal Trailing 0)
+        pub bytes_left : (end : ℕ) → members_end (members n s at 0 1) ≡ got end → end < length s → schedule_answer (schedule s) ≡ Err (refusal Trailing 0)
         unfolding after
         bytes_left end e h = ap schedule_answer (counted few) ∙ cases (members n s at 0 1) e
           where
-            cases : (o : Reading Refusal (Placed (List Member))) → members_end o ≡ got end → schedule_answer (after o) ≡ answers.Refused (refusal Trailing 0)
+            cases : (o : Reading Refusal (Placed (List Member))) → members_end o ≡ got end → schedule_answer (after o) ≡ Err (refusal Trailing 0)
             cases (got ms) e = let f : ms.next ≡ end = cc in rw (f, lt-leb _ _ h)
             cases (no t) e = absurd (let z : ◌≡◌ {A = ℕ} 0 1 = cc in omega arith)
 
-        pub all_read : (end : ℕ) → members_end (members n s at 0 1) ≡ got end → length s ≤ end → schedule_answer (schedule s) ≡ answers.Accepted n
+        pub all_read : (end : ℕ) → members_end (members n s at 0 1) ≡ got end → length s ≤ end → schedule_answer (schedule s) ≡ Ok n
         unfolding after
         all_read end e h = ap schedule_answer (counted few) ∙ cases (members n s at 0 1) refl e
           where
-            cases : (o : Reading Refusal (Placed (List Member))) → members n s at 0 1 ≡ o → members_end o ≡ got end → schedule_answer (after o) ≡ answers.Accepted n
+            cases : (o : Reading Refusal (Placed (List Member))) → members n s at 0 1 ≡ o → members_end o ≡ got end → schedule_answer (after o) ≡ Ok n
             cases (got ms) r e =
                 let f : ms.next ≡ end = cc in
                 rw (f, le-leb _ _ h, members_length n s at 0 1 ms.value ms.next r)

@@ -10,23 +10,15 @@ use line::put_line;
 use outcome::Outcome;
 use question::{Question, Refusal};
 
-#[derive(Clone, Copy)]
-pub enum TextAnswer {
-    // the text, or the file, stands in the buffer's first bytes: how many
-    Written(usize),
-    // the first question answered no; the buffer is as it was
-    Refused(Refusal),
-}
-
 // The question about the room, answered no.
-pub fn no_room(question: Question, member: u32) -> TextAnswer
-    ensures { result ≡ TextAnswer.Refused (refusal question member) }
+pub fn no_room(question: Question, member: u32) -> Result<usize, Refusal>
+    ensures { result ≡ Err (refusal question member) }
 {
-    TextAnswer::Refused(Refusal { question, member })
+    Err(Refusal { question, member })
 }
 
 // A line alone. The first run only finds how long it is.
-fn print_measured_line(mark: u32, o: Outcome, out: &mut [u8]) -> TextAnswer
+fn print_measured_line(mark: u32, o: Outcome, out: &mut [u8]) -> Result<usize, Refusal>
     ensures { Printed (text_too_long 1) (line_text (line_words mark o)) out.old out.new result }
 {
     let mut none = [0u8; 1];
@@ -34,17 +26,17 @@ fn print_measured_line(mark: u32, o: Outcome, out: &mut [u8]) -> TextAnswer
     if out.len() < size {
         no_room(Question::Buffer, 1)
     } else {
-        TextAnswer::Written(put_line(out, 0, mark, o))
+        Ok(put_line(out, 0, mark, o))
     }
 }
 
 // The same of a line that is at most 55 bytes long.
-pub fn print_line(mark: u32, o: Outcome, out: &mut [u8]) -> TextAnswer
+pub fn print_line(mark: u32, o: Outcome, out: &mut [u8]) -> Result<usize, Refusal>
     requires { length (line_text (line_words mark o)) ≤ 55 }
     ensures { Printed (text_too_long 1) (line_text (line_words mark o)) out.old out.new result }
 {
     if 55 <= out.len() {
-        TextAnswer::Written(put_line(out, 0, mark, o))
+        Ok(put_line(out, 0, mark, o))
     } else {
         print_measured_line(mark, o, out)
     }

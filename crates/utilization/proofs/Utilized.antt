@@ -1,4 +1,5 @@
 -- The utilizations of an accepted member are the nearest doubles, and each decides its check.
+use Rattle.std.specs.Prelude.{Err, Ok}
 use Prim.Native.Nat.{ℕ, ◌*◌, ◌^◌, ◌≤◌, ◌<◌}
 use mathlib.Core.Bool.{Bool}
 use mathlib.Core.Path.{◌≡◌, ◌∙◌}
@@ -21,7 +22,6 @@ use Rattle.cracking.specs.Steps.{width_limit}
 use Rattle.deflection.specs.Steps.{deflection, deflection_holds}
 use Rattle.deflection.proofs.Bounds.{divisor_between}
 use Rattle.verdict.specs.declared.Built.{Built}
-use Rattle.question.specs.declared.Verdict.TheVariants.{Accepted, Refused}
 use Rattle.field_table.specs.declared.MemberKind.{MemberKind}
 use Rattle.field_table.specs.declared.MemberKind.TheVariants as kinds
 use Rattle.field_layout.specs.Layout.{beam_at, column_at, mesh_at, member_at}
@@ -33,8 +33,7 @@ use Rattle.beam.proofs.Safe.{beam_safe}
 use Rattle.column.proofs.Safe.{column_given}
 use Rattle.checks.proofs.Figures.{member_short}
 use Rattle.ratio.specs.declared.Utilization.{Utilization}
-use Rattle.utilization.specs.declared.UtilizationAnswer.{UtilizationAnswer}
-use Rattle.utilization.specs.declared.UtilizationAnswer.TheVariants as answers
+use Rattle.utilization.specs.Utilized.{UtilizationAnswer}
 use Rattle.ratio.specs.Ratio.{quotient, nearest, ExactFigures}
 use Rattle.utilization.specs.Utilization.{deflection_limit, beam_utilization, column_utilization, mesh_utilization, utilization_of}
 use Rattle.governing.specs.Governing.{ratios_of, FiniteNonneg}
@@ -148,15 +147,15 @@ module _ (mark : ℕ) (v : List ℕ) (o : Outcome) {kind : MemberKind} {u : Util
 
 -- ---- The answer.
 
-pub accepted_exact : (x : Built) {o : Outcome} → built_verdict x.mark x.kind x.fields.v ≡ Accepted → o ≡ outcome_of (member_of x) →
+pub accepted_exact : (x : Built) {o : Outcome} → built_verdict x.mark x.kind x.fields.v ≡ (Ok tt) → o ≡ outcome_of (member_of x) →
     AcceptedMember (member_of x) × ExactFigures o
 accepted_exact x p e =
     let a = accepted_built x.mark x.kind x.fields.v p in
     (a, rw e (member_exact (member_of x) a))
 
 module _ (x : Built) {answer : UtilizationAnswer} where
-  pub given : built_verdict x.mark x.kind x.fields.v ≡ Accepted →
-      answer ≡ answers.Given (utilization_of quotient (member_of x) (outcome_of (member_of x))) → Utilized x answer
+  pub given : built_verdict x.mark x.kind x.fields.v ≡ (Ok tt) →
+      answer ≡ Ok (utilization_of quotient (member_of x) (outcome_of (member_of x))) → Utilized x answer
   unfolding utilization_answer
   given p e =
       let a = accepted_built _ _ _ p in
@@ -167,8 +166,8 @@ module _ (x : Built) {answer : UtilizationAnswer} where
         decides = λ z. rw (e, member_nearest (member_of x) a) (member_decides (member_of x) a);
       }
 
-  pub refused : (q : Question) → built_verdict x.mark x.kind x.fields.v ≡ Refused q →
-      answer ≡ answers.Refused (record { question = q; member = 1 }) → Utilized x answer
+  pub refused : (q : Question) → built_verdict x.mark x.kind x.fields.v ≡ Err q →
+      answer ≡ Err (record { question = q; member = 1 }) → Utilized x answer
   unfolding utilization_answer
   refused q p e =
       record {

@@ -17,16 +17,9 @@ use field_table::{MemberKind, kind_of};
 use member::{Beam, Column, Mesh};
 use outcome::Outcome;
 use quantity::{Length, div_down};
-use question::{Refusal, Verdict};
+use question::Refusal;
 use ratio::{Utilization, no_ratio, over_figure, over_limit, together};
 use verdict::{Built, built_verdict};
-
-#[derive(Clone, Copy)]
-pub enum UtilizationAnswer {
-    Given(Utilization),
-    // the first question answered no
-    Refused(Refusal),
-}
 
 // The limit of the deflection over a span, 0.01 mm.
 fn deflection_limit(l0: Length, strict: u32) -> u64
@@ -93,19 +86,19 @@ fn member_utilization(mark: u32, kind: MemberKind, v: &[u32; 40], o: Outcome) ->
 }
 
 // The utilization of a member that a caller built.
-pub fn utilization_of(x: Built) -> UtilizationAnswer
+pub fn utilization_of(x: Built) -> Result<Utilization, Refusal>
     ensures { Utilized x result }
 {
     let v = x.fields.v;
     match built_verdict(x.mark, x.kind, &v) {
-        Verdict::Refused(q) => UtilizationAnswer::Refused(Refusal {
+        Err(q) => Err(Refusal {
             question: q,
             member: 1,
         }),
-        Verdict::Accepted => {
+        Ok(()) => {
             let kind = kind_of(x.kind);
             let o = check_member(x.mark, kind, &v);
-            UtilizationAnswer::Given(member_utilization(x.mark, kind, &v, o))
+            Ok(member_utilization(x.mark, kind, &v, o))
         }
     }
 }

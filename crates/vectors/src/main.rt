@@ -103,8 +103,8 @@ fn write_words(words: &[u32], out: &mut [u8]) -> usize
     ensures { Holds out.new result (written_of words.now) }
 {
     match write_schedule(words, out) {
-        TextAnswer::Written(n) => n,
-        TextAnswer::Refused(r) => {
+        Ok(n) => n,
+        Err(r) => {
             let question = r.question;
             put_refusal(out, 0, number_of(question), r.member)
         }

@@ -12,7 +12,7 @@ use field_check::{Slots, fields_hold};
 use field_domain::in_range;
 use field_layout::{beam_of, column_of, mesh_of};
 use field_table::{MemberKind, is_known, kind_of};
-use question::{Question, Verdict};
+use question::Question;
 use reinforcement::{beam_bars, beam_ratio, column_bars};
 use service_moment::service_moment_fits;
 
@@ -25,14 +25,14 @@ pub struct Built {
 }
 
 // Question q is put before those that came to `next`: its no is the answer.
-fn ask(q: Question, holds: bool, next: Verdict) -> Verdict
+fn ask(q: Question, holds: bool, next: Result<(), Question>) -> Result<(), Question>
     ensures { result ≡ ask_verdict q holds next }
 {
-    if holds { next } else { Verdict::Refused(q) }
+    if holds { next } else { Err(q) }
 }
 
 // 8, 9, 10 and 14 of a beam whose fields passed question 7. All are worked out; the first no is the answer.
-fn beam_verdict(pointLoad: bool, v: &[u32; 40]) -> Verdict
+fn beam_verdict(pointLoad: bool, v: &[u32; 40]) -> Result<(), Question>
     requires { fields_hold beam_fields 0 v.now ≡ true }
     ensures { result ≡ beam_verdict (beam_at pointLoad v.now) }
 {
@@ -41,37 +41,37 @@ fn beam_verdict(pointLoad: bool, v: &[u32; 40]) -> Verdict
     let bars = beam_bars(x);
     let ratio = beam_ratio(x);
     let service = service_moment_fits(x);
-    let after10 = ask(Question::ServiceMoment, service, Verdict::Accepted);
+    let after10 = ask(Question::ServiceMoment, service, Ok(()));
     let after9 = ask(Question::Ratio, ratio, after10);
     let after8 = ask(Question::Bars, bars, after9);
     ask(Question::Consistency, consistent, after8)
 }
 
 // 8 and 9 of a column whose fields passed question 7.
-fn column_verdict(v: &[u32; 40]) -> Verdict
+fn column_verdict(v: &[u32; 40]) -> Result<(), Question>
     requires { fields_hold column_fields 0 v.now ≡ true }
     ensures { result ≡ column_verdict (column_at v.now) }
 {
     let x = column_of(v);
     let consistent = column_consistent(x);
     let bars = column_bars(x);
-    let after8 = ask(Question::Bars, bars, Verdict::Accepted);
+    let after8 = ask(Question::Bars, bars, Ok(()));
     ask(Question::Consistency, consistent, after8)
 }
 
 // 8 of a mesh.
-fn mesh_verdict(v: &[u32; 40]) -> Verdict
+fn mesh_verdict(v: &[u32; 40]) -> Result<(), Question>
     ensures { result ≡ mesh_verdict (mesh_at v.now) }
 {
     ask(
         Question::Consistency,
         mesh_consistent(mesh_of(v)),
-        Verdict::Accepted,
+        Ok(()),
     )
 }
 
 // The questions of a whole member whose fields passed question 7.
-pub fn member_verdict(kind: MemberKind, v: &[u32; 40]) -> Verdict
+pub fn member_verdict(kind: MemberKind, v: &[u32; 40]) -> Result<(), Question>
     requires { fields_hold (fields_of kind) 0 v.now ≡ true }
     ensures { result ≡ member_verdict kind v.now }
 {
@@ -90,27 +90,27 @@ pub fn mark_in_range(mark: u32) -> bool
 }
 
 // 7, and the questions of a whole member of this kind.
-fn fields_verdict(kind: MemberKind, v: &[u32; 40]) -> Verdict
+fn fields_verdict(kind: MemberKind, v: &[u32; 40]) -> Result<(), Question>
     ensures { result ≡ fields_verdict kind v.now }
 {
     if fields_hold(kind, v) {
         member_verdict(kind, v)
     } else {
-        Verdict::Refused(Question::Field)
+        Err(Question::Field)
     }
 }
 
 // The questions put to a single built member with this mark, the kind of this number and these slots.
-pub fn built_verdict(mark: u32, number: u32, v: &[u32; 40]) -> Verdict
+pub fn built_verdict(mark: u32, number: u32, v: &[u32; 40]) -> Result<(), Question>
     ensures { result ≡ built_verdict mark number v.now }
 {
     if mark_in_range(mark) {
         if is_known(number) {
             fields_verdict(kind_of(number), v)
         } else {
-            Verdict::Refused(Question::Kind)
+            Err(Question::Kind)
         }
     } else {
-        Verdict::Refused(Question::Mark)
+        Err(Question::Mark)
     }
 }

@@ -13,7 +13,7 @@ use encoding::{put_member, put_number};
 use held_schedule::{read_record, validate_held};
 use question::Question;
 use schedule::ScheduleAnswer;
-use text_answer::{TextAnswer, no_room};
+use text_answer::no_room;
 
 // The bytes of the first `count` records, into the buffer from `to` on: the place after them.
 fn put_records(words: &[u32], count: u32, out: &mut [u8], to: usize) -> usize
@@ -43,7 +43,7 @@ fn put_schedule(words: &[u32], count: u32, out: &mut [u8]) -> usize
 }
 
 // The file of the first `count` records. The first run only finds how long it is.
-fn write_measured(words: &[u32], count: u32, out: &mut [u8]) -> TextAnswer
+fn write_measured(words: &[u32], count: u32, out: &mut [u8]) -> Result<usize, Refusal>
     requires { (count * record_words ≤ length words.now) × AllInRange (records_from count words.now 0) }
     ensures { Printed file_too_long (bytes_of count ++ records_bytes (records_from count words.now 0)) out.old out.new result }
 {
@@ -52,28 +52,28 @@ fn write_measured(words: &[u32], count: u32, out: &mut [u8]) -> TextAnswer
     if out.len() < n {
         no_room(Question::File, 0)
     } else {
-        TextAnswer::Written(put_schedule(words, count, out))
+        Ok(put_schedule(words, count, out))
     }
 }
 
 // The same. The count of at most 500 takes two bytes at most and no member more than 61, so a buffer of 2 + 61·count bytes needs no first run.
-fn write_records(words: &[u32], count: u32, out: &mut [u8]) -> TextAnswer
+fn write_records(words: &[u32], count: u32, out: &mut [u8]) -> Result<usize, Refusal>
     requires { (count ≤ 500) × (count * record_words ≤ length words.now) × AllInRange (records_from count words.now 0) }
     ensures { Printed file_too_long (bytes_of count ++ records_bytes (records_from count words.now 0)) out.old out.new result }
 {
     if 2 + 61 * (count as usize) <= out.len() {
-        TextAnswer::Written(put_schedule(words, count, out))
+        Ok(put_schedule(words, count, out))
     } else {
         write_measured(words, count, out)
     }
 }
 
 // The file of a held schedule: its members are put their questions, then its bytes are put.
-pub fn write_schedule(words: &[u32], out: &mut [u8]) -> TextAnswer
+pub fn write_schedule(words: &[u32], out: &mut [u8]) -> Result<usize, Refusal>
     ensures { ScheduleWritten words.now out.old out.new result }
 {
     match validate_held(words) {
-        ScheduleAnswer::Refused(r) => TextAnswer::Refused(r),
-        ScheduleAnswer::Accepted(count) => write_records(words, count, out),
+        Err(r) => Err(r),
+        Ok(count) => write_records(words, count, out),
     }
 }

@@ -2,8 +2,8 @@
 use lib.Ieee.{of_bits}
 use Rattle.answer_record.proofs.with_governing.Goals as goal
 
-pub returns-in-Largest : goal.returns-in-Largest
-returns-in-Largest c = rw c.in-Largest.is
+pub returns-in-Some : goal.returns-in-Some
+returns-in-Some c = rw c.in-Some.is
 
 pub returns-in-None : goal.returns-in-None
 unfolding of_bits

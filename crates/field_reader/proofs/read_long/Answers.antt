@@ -1,9 +1,9 @@
 -- `field_reader::read_long` meets its contract: the number from the third group is the number from here, the weight is that of the groups
 -- passed, and the value so far is below it.
+use Rattle.std.specs.Prelude.{Ok}
 use mathlib.Core.Path.{◌≡◌, refl, ◌∙◌}
 use Prim.Native.Nat.{suc, ◌+◌, ◌-◌, ◌*◌, ◌^◌, ◌≤◌, ◌<◌}
 use native.Mathlib.Omega.{arith}
-use Rattle.varint.specs.declared.Number.TheVariants.{Value}
 use Rattle.varint.specs.Varint.{septets_at}
 use Rattle.varint.proofs.Septets.{below}
 use Rattle.question.specs.Reading.{Got}
@@ -31,7 +31,7 @@ sum c =
 ended : (c : After-loop-b) →
     let l = c.loop-b in
     (l.v + l.b * l.w < 2 ^ 32)
-    × (septets_at (suc (c.args.at + 2 - l.p)) c.args.src.now l.p l.w l.v ≡ Value (l.v + l.b * l.w) (l.p + 1))
+    × (septets_at (suc (c.args.at + 2 - l.p)) c.args.src.now l.p l.w l.v ≡ Ok (l.v + l.b * l.w, l.p + 1))
 ended c =
     let l = c.loop-b in
     let on : Got (of_number (septets_at (suc (c.args.at + 2 - l.p)) c.args.src.now l.p l.w l.v)) = rw l.invariant.6 at c.requires.1 in

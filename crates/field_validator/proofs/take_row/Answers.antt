@@ -7,13 +7,13 @@ use Rattle.field_validator.proofs.take_row.Goals as goal
 pub loop-i-init : goal.loop-i-init
 loop-i-init c = (search rules, refl)
 
-pub returns-in-Refused : goal.returns-in-Refused
-returns-in-Refused c =
-    sym (c.loop-i.invariant.1 ∙ row_refused _ _ _ _ _ c.loop-i-test.true _ (sym c.number_at.ensures ∙ c.in-Refused.is))
+pub returns-in-Err : goal.returns-in-Err
+returns-in-Err c =
+    sym (c.loop-i.invariant.1 ∙ row_refused _ _ _ _ _ c.loop-i-test.true _ (sym c.number_at.ensures ∙ c.in-Err.is))
 
 pub loop-i-preserved : goal.loop-i-preserved
 loop-i-preserved c =
-    (search rules, c.loop-i.invariant.1 ∙ row_stored _ _ _ _ _ c.loop-i-test.true _ _ (sym c.number_at.ensures ∙ c.in-Value.is))
+    (search rules, c.loop-i.invariant.1 ∙ row_stored _ _ _ _ _ c.loop-i-test.true _ _ (sym c.number_at.ensures ∙ c.in-Ok.is))
 
 pub returns : goal.returns
 returns c =

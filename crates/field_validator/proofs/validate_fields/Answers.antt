@@ -16,21 +16,21 @@ loop-i-init c = let f = fields_fit c.args.kind in (search rules, search rules, r
 pub field_of-d-requires : goal.field_of-d-requires
 field_of-d-requires c = omega (arith, c.loop-i.invariant.0, c.loop-i-test.true)
 
-pub returns-in-Refused : goal.returns-in-Refused
-returns-in-Refused c =
+pub returns-in-Err : goal.returns-in-Err
+returns-in-Err c =
     let h : c.loop-i.i < length (fields_of c.args.kind) = omega (arith, c.loop-i.invariant.0) in
     c.refused_fields.ensures
     ∙ ap fields_read_of (sym (c.loop-i.invariant.3 ∙ field_refused (fields_of c.args.kind) c.args.src.now c.loop-i.p c.loop-i.i c.loop-i.v h _ c.field_of-d.ensures
-    (sym c.field_present.ensures ∙ c.if-field_present.true) _ c.validate_field.ensures _ c.in-Refused.is))
+    (sym c.field_present.ensures ∙ c.if-field_present.true) _ c.validate_field.ensures _ c.in-Err.is))
 
-pub loop-i-preserved-in-Value : goal.loop-i-preserved-in-Value
-loop-i-preserved-in-Value c =
+pub loop-i-preserved-in-Ok : goal.loop-i-preserved-in-Ok
+loop-i-preserved-in-Ok c =
     let h : c.loop-i.i < length (fields_of c.args.kind) = omega (arith, c.loop-i.invariant.0) in (
       c.loop-i.invariant.0,
       c.loop-i.invariant.1,
       search rules,
       c.loop-i.invariant.3 ∙ field_stored (fields_of c.args.kind) c.args.src.now c.loop-i.p c.loop-i.i c.loop-i.v h _ c.field_of-d.ensures
-          (sym c.field_present.ensures ∙ c.if-field_present.true) _ c.validate_field.ensures _ _ c.in-Value.is,
+          (sym c.field_present.ensures ∙ c.if-field_present.true) _ c.validate_field.ensures _ _ c.in-Ok.is,
     )
 
 pub loop-i-preserved : goal.loop-i-preserved

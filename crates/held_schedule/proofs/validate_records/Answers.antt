@@ -7,13 +7,13 @@ use Rattle.held_schedule.proofs.validate_records.Goals as goal
 pub loop-left-init : goal.loop-left-init
 loop-left-init c = (omega arith, omega arith, counted _ _ 0 0 1)
 
-pub returns-in-Refused : goal.returns-in-Refused
-returns-in-Refused c =
-    sym (c.loop-left.invariant.2 ∙ record_refused _ _ _ _ _ _ c.loop-left-test.true _ (sym c.record_verdict.ensures ∙ c.in-Refused.is))
+pub returns-in-Err : goal.returns-in-Err
+returns-in-Err c =
+    sym (c.loop-left.invariant.2 ∙ record_refused _ _ _ _ _ _ c.loop-left-test.true _ (sym c.record_verdict.ensures ∙ c.in-Err.is))
 
 pub loop-left-preserved : goal.loop-left-preserved
 loop-left-preserved c =
-    (omega arith, omega arith, c.loop-left.invariant.2 ∙ record_accepted _ _ _ _ _ _ c.loop-left-test.true (sym c.record_verdict.ensures ∙ c.in-Accepted.is))
+    (omega arith, omega arith, c.loop-left.invariant.2 ∙ record_accepted _ _ _ _ _ _ c.loop-left-test.true (sym c.record_verdict.ensures ∙ c.in-Ok.is))
 
 pub returns : goal.returns
 returns c = sym (c.loop-left.invariant.2 ∙ no_record _ _ _ _ _ _ c.loop-left-test.false)

@@ -12,4 +12,4 @@ returns-then-fields_hold c =
     rw c.member_verdict.ensures
     (sym
     (body_passed _ _ _ c.kind_of-kind.ensures _ _ _ _
-    (taken_fields _ _ _ _ _ (end_got _ _ _ c.take_fields.ensures _ c.in-To.is) (sym c.fields_hold.ensures ∙ c.if-fields_hold.true))))
+    (taken_fields _ _ _ _ _ (end_got _ _ _ c.take_fields.ensures _ c.in-Ok.is) (sym c.fields_hold.ensures ∙ c.if-fields_hold.true))))

@@ -7,12 +7,12 @@ use Rattle.members.proofs.validate_one_by_one.Goals as goal
 
 pub member_verdict-requires : goal.member_verdict-requires
 member_verdict-requires c =
-    fields_held _ _ _ _ _ (fields_got _ _ c.validate_fields-run.ensures c.in-Accepted.is)
+    fields_held _ _ _ _ _ (fields_got _ _ c.validate_fields-run.ensures c.in-Ok.is)
 
-pub returns-in-Refused : goal.returns-in-Refused
-returns-in-Refused c =
-    c.refused_member.ensures ∙ sym (body_no _ _ _ c.kind_of-kind.ensures _ _ _ (fields_no _ _ _ c.validate_fields-run.ensures c.in-Refused.is))
+pub returns-in-Err : goal.returns-in-Err
+returns-in-Err c =
+    c.refused_member.ensures ∙ sym (body_no _ _ _ c.kind_of-kind.ensures _ _ _ (fields_no _ _ _ c.validate_fields-run.ensures c.in-Err.is))
 
-pub returns-in-Accepted : goal.returns-in-Accepted
-returns-in-Accepted c =
-    rw c.member_verdict.ensures (sym (body_passed _ _ _ c.kind_of-kind.ensures _ _ _ _ (fields_got _ _ c.validate_fields-run.ensures c.in-Accepted.is)))
+pub returns-in-Ok : goal.returns-in-Ok
+returns-in-Ok c =
+    rw c.member_verdict.ensures (sym (body_passed _ _ _ c.kind_of-kind.ensures _ _ _ _ (fields_got _ _ c.validate_fields-run.ensures c.in-Ok.is)))

@@ -3,12 +3,12 @@ use Rattle.ratio.specs.Ratio.{over_limit}
 use Rattle.ratio.proofs.over_limit.Goals as goal
 
 pub ratio_of-requires : goal.ratio_of-requires
-ratio_of-requires c = (rw c.in-Reached.is at c.requires.0, c.requires.1)
+ratio_of-requires c = (rw c.in-Some.is at c.requires.0, c.requires.1)
 
-pub returns-in-Reached : goal.returns-in-Reached
+pub returns-in-Some : goal.returns-in-Some
 unfolding over_limit
-returns-in-Reached c = rw c.in-Reached.is c.ratio_of.ensures
+returns-in-Some c = rw c.in-Some.is c.ratio_of.ensures
 
-pub returns-in-Unreached : goal.returns-in-Unreached
+pub returns-in-None : goal.returns-in-None
 unfolding over_limit
-returns-in-Unreached c = rw c.in-Unreached.is c.no_ratio.ensures
+returns-in-None c = rw c.in-None.is c.no_ratio.ensures

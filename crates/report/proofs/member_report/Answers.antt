@@ -7,16 +7,16 @@ use Rattle.report.proofs.member_report.Goals as goal
 
 pub check_member-requires : goal.check_member-requires
 check_member-requires c =
-    rw c.kind_of.ensures (accepted_built _ _ _ (sym c.built_verdict.ensures ∙ c.in-Accepted.is))
+    rw c.kind_of.ensures (accepted_built _ _ _ (sym c.built_verdict.ensures ∙ c.in-Ok.is))
 
 pub print_line-requires : goal.print_line-requires
 print_line-requires c =
-    line_fits c.args.x _ (sym c.built_verdict.ensures ∙ c.in-Accepted.is) (rw c.kind_of.ensures at c.check_member.ensures)
+    line_fits c.args.x _ (sym c.built_verdict.ensures ∙ c.in-Ok.is) (rw c.kind_of.ensures at c.check_member.ensures)
 
-pub returns-in-Refused : goal.returns-in-Refused
-returns-in-Refused c = member_refused _ _ _ (sym c.built_verdict.ensures ∙ c.in-Refused.is)
+pub returns-in-Err : goal.returns-in-Err
+returns-in-Err c = member_refused _ _ _ (sym c.built_verdict.ensures ∙ c.in-Err.is)
 
-pub returns-in-Accepted : goal.returns-in-Accepted
-returns-in-Accepted c =
-    member_reported c.args.x _ _ _ (sym c.built_verdict.ensures ∙ c.in-Accepted.is)
+pub returns-in-Ok : goal.returns-in-Ok
+returns-in-Ok c =
+    member_reported c.args.x _ _ _ (sym c.built_verdict.ensures ∙ c.in-Ok.is)
     (printed_member c.args.x _ (rw c.kind_of.ensures at c.check_member.ensures) c.print_line.ensures)

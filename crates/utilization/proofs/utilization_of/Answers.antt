@@ -6,16 +6,16 @@ use Rattle.utilization.proofs.utilization_of.Goals as goal
 
 pub check_member-o-requires : goal.check_member-o-requires
 check_member-o-requires c =
-    rw c.kind_of-kind.ensures (accepted_built _ _ _ (sym c.built_verdict.ensures ∙ c.in-Accepted.is))
+    rw c.kind_of-kind.ensures (accepted_built _ _ _ (sym c.built_verdict.ensures ∙ c.in-Ok.is))
 
 pub member_utilization-requires : goal.member_utilization-requires
 member_utilization-requires c =
     rw c.kind_of-kind.ensures
-    (accepted_exact _ (sym c.built_verdict.ensures ∙ c.in-Accepted.is) (rw c.kind_of-kind.ensures at c.check_member-o.ensures))
+    (accepted_exact _ (sym c.built_verdict.ensures ∙ c.in-Ok.is) (rw c.kind_of-kind.ensures at c.check_member-o.ensures))
 
-pub returns-in-Refused : goal.returns-in-Refused
-returns-in-Refused c = refused _ _ (sym c.built_verdict.ensures ∙ c.in-Refused.is) refl
+pub returns-in-Err : goal.returns-in-Err
+returns-in-Err c = refused _ _ (sym c.built_verdict.ensures ∙ c.in-Err.is) refl
 
-pub returns-in-Accepted : goal.returns-in-Accepted
-returns-in-Accepted c =
-    given _ (sym c.built_verdict.ensures ∙ c.in-Accepted.is) (rw (c.member_utilization.ensures, c.check_member-o.ensures, c.kind_of-kind.ensures))
+pub returns-in-Ok : goal.returns-in-Ok
+returns-in-Ok c =
+    given _ (sym c.built_verdict.ensures ∙ c.in-Ok.is) (rw (c.member_utilization.ensures, c.check_member-o.ensures, c.kind_of-kind.ensures))
