@@ -1,13 +1,12 @@
 -- Laws of the sums over groups: one group more at the end, and bounds over accepted groups.
-use Prim.Native.Nat.{ℕ, ◌+◌, ◌*◌, ◌-◌, ◌^◌, ◌≤◌, ◌<◌, min, max}
-use mathlib.Core.Path.{◌≡◌, refl, sym, ◌∙◌}
+use Prim.Native.Nat.{ℕ, ◌+◌, ◌*◌, ◌≤◌, ◌<◌, min, max}
+use mathlib.Core.Path.{◌≡◌, refl, sym}
 use mathlib.Core.List.{List, [], ◌∷◌, ◌++◌}
-use native.Mathlib.Nat.{lt_of_le_of_lt, mul-le-mul, mul-add, mul_comm, mul_assoc, mul-le-mul_left}
+use native.Mathlib.Nat.{mul-add, mul_comm, mul_assoc, mul-le-mul_left}
 use native.Mathlib.Numerals.{add-one}
 use native.Mathlib.Omega.{arith}
-use native.Mathlib.Decide.{dec_le}
 use lib.ListN.{length, take, get_or, length-take}
-use lib.Seq.{take-suc, take-take, take_all, get_or-take}
+use lib.Seq.{take-suc}
 use Rattle.quantity.proofs.All.{all_take, all_at}
 use Rattle.code_tables.proofs.Bars.{area_most}
 use Rattle.bars.specs.declared.Group.{Group}
@@ -42,10 +41,6 @@ totals_last gs g t e =
     }
 
 -- ---- Of one group.
-
--- a product of two 32-bit numbers fits 64 bits
-pub fits : (a b : ℕ) → a < 2 ^ 32 → b < 2 ^ 32 → a * b < 2 ^ 64
-fits a b h k = lt_of_le_of_lt (mul-le-mul {n₁ = a} {m₁ = b} {n₂ = 2 ^ 32 - 1} {m₂ = 2 ^ 32 - 1} (omega arith) (omega arith)) (omega arith)
 
 by_bars : (n : ℕ) {d k : ℕ} → d ≤ k → n * d ≤ k * n
 by_bars n {d} {k} h = rw (mul_comm k n) (mul-le-mul_left n h)
@@ -171,20 +166,9 @@ pub totals_more : (gs : List Group) (i : ℕ) (d : Group) (t : Totals) → i < l
 totals_more gs i d t l e = rw (add-one, take-suc gs i d l) (totals_last (take i gs) (get_or gs i d) t e)
 
 -- a turn of the loop: the groups up to i are summed, and there is one more
-module _ (gs : List Group) (count i : ℕ) (d : Group) (four : length gs ≡ 4) (a : AcceptedGroups (take count gs)) where
-  pub turn_requires : (t : Totals) → i < min count 4 → TotalsOf (take i gs) t → TotalsFit t × AcceptedGroup (get_or gs i d)
-  turn_requires t l e =
-      let h : i < count = omega arith in
-      let le : i ≤ count = omega arith in
-      let front = rw (take-take i count gs le) at (all_take AcceptedGroup i (take count gs) a) in (
-        totals_fit (take i gs) t front (simp length-take (omega arith)) e,
-        rw (get_or-take count gs i d h) at (all_at AcceptedGroup (take count gs) a i d (λ k. absurd (omega (arith, simp length-take at k)))),
-      )
-
--- after the loop
-pub all_summed : (gs : List Group) (count i : ℕ) (t : Totals) → length gs ≡ 4 → i ≡ min count 4 → TotalsOf (take i gs) t → TotalsOf (take count gs) t
-all_summed gs count i t four e s = rw (← front (dec_le count 4)) s
-  where
-    front : Dec (count ≤ 4) → take i gs ≡ take count gs
-    front (yes h) = let f : i ≡ count = omega arith in rw f
-    front (no h) = take_all i gs (omega arith) ∙ sym (take_all count gs (omega arith))
+pub turn_requires : (gs : List Group) (i : ℕ) (d : Group) (t : Totals) → AcceptedGroups gs → length gs ≤ 4 → i < length gs → TotalsOf (take i gs) t
+    → TotalsFit t × AcceptedGroup (get_or gs i d)
+turn_requires gs i d t a four l e = (
+  totals_fit (take i gs) t (all_take AcceptedGroup i gs a) (simp length-take (omega arith)) e,
+  all_at AcceptedGroup gs a i d (λ k. absurd (omega arith)),
+)
