@@ -1,7 +1,7 @@
 -- `column::links_fit` meets its contract.
 use native.Mathlib.Omega.{arith}
 use Rattle.member.specs.Member.{column_of}
-use Rattle.bars.proofs.Groups.{smallest_most}
+use Rattle.bars.proofs.Sums.{smallest_most}
 use Rattle.column.specs.Checks.{links_fit}
 use Rattle.column.proofs.links_fit.Goals as goal
 

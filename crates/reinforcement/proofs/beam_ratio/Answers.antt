@@ -2,7 +2,7 @@
 use Rattle.member.specs.Member.{beam_of}
 use Prim.Native.Nat.{◌*◌}
 use native.Mathlib.Nat.{mul-le-mul}
-use Rattle.bars.proofs.Groups.{bars_most, area_most_by_bars}
+use Rattle.bars.proofs.Sums.{bars_most, area_most_by_bars}
 use native.Mathlib.Omega.{arith}
 use Rattle.reinforcement.specs.Reinforcement.{beam_ratio}
 use borrow.Author.Rules.{rules}
