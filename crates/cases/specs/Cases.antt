@@ -12,7 +12,7 @@ use Rattle.deflection.specs.Steps.{span_divisor}
 use Rattle.stability.specs.Steps.{stability}
 use Rattle.ratio.specs.declared.Utilization.{Utilization}
 use Rattle.ratio.specs.Ratio.{nought, no_ratio, four_ratios}
-use Rattle.governing.specs.Governing.{double, none, governing_of}
+use Rattle.governing.specs.Governing.{governing_of}
 use Rattle.utilization.specs.Utilized.{values_given, values_refused}
 use Rattle.question.specs.Reading.{got, no, refusal}
 use Rattle.schedule.specs.Schedule.{schedule}
@@ -427,7 +427,7 @@ pub record Table : Type 0 where
   pub utilization_service : lent_utilization_of (built_beam_with 1 1 90000 90001 0) (bars 4 20) [] ≡ values_refused (refusal ServiceMoment 1)
   pub utilization_point_service : lent_utilization_of (built_beam_with 4 1 90000 90001 0) (bars 4 20) [] ≡ values_refused (refusal ServiceMoment 1)
   -- the moment governs the beam, the lap the mesh
-  pub governs_1 : governing_of of_beam ≡ double of_beam.first
-  pub governs_web : governing_of of_moment_alone ≡ double of_moment_alone.first
-  pub governs_3 : governing_of of_mesh ≡ double of_mesh.second
-  pub governs_none : governing_of of_none ≡ none
+  pub governs_1 : governing_of of_beam ≡ Some of_beam.first
+  pub governs_web : governing_of of_moment_alone ≡ Some of_moment_alone.first
+  pub governs_3 : governing_of of_mesh ≡ Some of_mesh.second
+  pub governs_none : governing_of of_none ≡ None

@@ -2,33 +2,26 @@
 #![tactic(auto)]
 
 ghost use Rattle.std.specs.Prelude.{◌≡◌};
-ghost use Rattle.governing.specs.Governing.{governing_value, including, Governs};
+ghost use Rattle.governing.specs.Governing.{including, Governs};
 
 use ratio::Utilization;
 
 // One more, which counts where it was reached.
 fn include(g: Option<f64>, reached: bool, value: f64) -> Option<f64>
-    ensures { governing_value result ≡ including (governing_value g) reached value }
+    ensures { result ≡ including g reached value }
 {
-    if reached {
-        match g {
-            Some(most) => {
-                if most < value {
-                    Some(value)
-                } else {
-                    Some(most)
-                }
-            }
-            None => Some(value),
-        }
-    } else {
-        g
+    if !reached {
+        return g;
+    }
+    match g {
+        Some(most) => Some(if most < value { value } else { most }),
+        None => Some(value),
     }
 }
 
 // The largest of the utilizations that were reached, or none.
 pub fn governing_of(u: Utilization) -> Option<f64>
-    ensures { Governs u (governing_value result) }
+    ensures { Governs u result }
 {
     let a = include(None, u.firstReached, u.first);
     let b = include(a, u.secondReached, u.second);

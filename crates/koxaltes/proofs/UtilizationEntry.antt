@@ -17,7 +17,7 @@ use Rattle.lent_member.specs.Lent.{lent_member, first_count, second_count}
 use Rattle.lent_member.specs.LentSlots.{built_of}
 use Rattle.lent_member.proofs.InSlots.{slots_again, copied, slots, lent_verdict_lem, lent_member_lem}
 use Rattle.question.proofs.Numbers.{numbered}
-use Rattle.governing.specs.Governing.{DoubleOrNone, double, none, ratios_of, governing_of, Among, FiniteNonneg, Governs}
+use Rattle.governing.specs.Governing.{ratios_of, governing_of, Among, FiniteNonneg, Governs}
 use Rattle.governing.proofs.Largest.{governs}
 use Rattle.utilization.specs.Utilized.{UtilizationAnswer}
 use Rattle.utilization.specs.Utilized.{Values, values_of, utilization_by, utilization_answer, Utilized}
@@ -30,31 +30,31 @@ module _ (n : Values) where
   record_utilization : (utilization_record n).utilization ≡ n.utilization
   record_utilization = of_value (governing_of n.utilization)
     where
-      of_value : (g : DoubleOrNone) → (with_governing n g).utilization ≡ n.utilization
-      of_value (double x) = refl
-      of_value none = refl
+      of_value : (g : Option Float) → (with_governing n g).utilization ≡ n.utilization
+      of_value (Some x) = refl
+      of_value None = refl
 
   record_question : (utilization_record n).question ≡ n.question
   record_question = of_value (governing_of n.utilization)
     where
-      of_value : (g : DoubleOrNone) → (with_governing n g).question ≡ n.question
-      of_value (double x) = refl
-      of_value none = refl
+      of_value : (g : Option Float) → (with_governing n g).question ≡ n.question
+      of_value (Some x) = refl
+      of_value None = refl
 
   record_reached : (utilization_record n).governs ≡ true → Among (ratios_of n.utilization) (utilization_record n).governing
   record_reached = of_value (governing_of n.utilization) (governs n.utilization refl)
     where
-      of_value : (g : DoubleOrNone) → Governs n.utilization g → (with_governing n g).governs ≡ true → Among (ratios_of n.utilization) (with_governing n g).governing
-      of_value (double x) h e = h.reached x refl
-      of_value none h e = absurd (false≢true e)
+      of_value : (g : Option Float) → Governs n.utilization g → (with_governing n g).governs ≡ true → Among (ratios_of n.utilization) (with_governing n g).governing
+      of_value (Some x) h e = h.reached x refl
+      of_value None h e = absurd (false≢true e)
 
   record_largest : FiniteNonneg (ratios_of n.utilization) → (x : Float) → Among (ratios_of n.utilization) x
       → ((utilization_record n).governs ≡ true) × (le x (utilization_record n).governing ≡ true)
   record_largest f x a = of_value (governing_of n.utilization) (governs n.utilization refl)
     where
-      of_value : (g : DoubleOrNone) → Governs n.utilization g → ((with_governing n g).governs ≡ true) × (le x (with_governing n g).governing ≡ true)
-      of_value (double y) h = (refl, h.largest f x a)
-      of_value none h = absurd (h.largest f x a)
+      of_value : (g : Option Float) → Governs n.utilization g → ((with_governing n g).governs ≡ true) × (le x (with_governing n g).governing ≡ true)
+      of_value (Some y) h = (refl, h.largest f x a)
+      of_value None h = absurd (h.largest f x a)
 
 pub member_utilized : {x y : Built} {a : UtilizationAnswer} {r : UtilizationRecord} → x ≡ y → Utilized x a → r ≡ utilization_record (values_of a) → UtilizationEntry (utilization_answer y) (member_of y) r
 member_utilized {a = a} {r = r} i p e =

@@ -10,8 +10,7 @@ use Rattle.std.specs.Prelude.{if◌then◌else◌, None, Some}
 use Rattle.quantity.proofs.Choice.{if_case}
 use Rattle.outcome.specs.Outcome.{Figure}
 use Rattle.outcome.specs.Safe.{WhereReached}
-use Rattle.ratio.specs.declared.Ratio.{Ratio}
-use Rattle.ratio.specs.Ratio.{quotient, nearest, no_ratio, ratio, over_figure, over_limit, ExactFigure, Decides, finite_nonneg}
+use Rattle.ratio.specs.Ratio.{Ratio, quotient, nearest, no_ratio, ratio, over_figure, over_limit, ExactFigure, Decides, finite_nonneg}
 use Rattle.ratio.proofs.Division.{quotient_nearest, at_most_one, nearest_nonneg}
 
 -- a figure, where it was reached, is n

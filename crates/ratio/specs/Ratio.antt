@@ -1,11 +1,10 @@
 -- One utilization as a double: demand over figure, or figure over limit; the four of a member in one record.
 -- Document 01, "Shares for the viewer", calls a utilization a share.
-use Rattle.std.specs.Prelude.{ℕ, ◌^◌, ◌<◌, ◌≡◌, Bool, true, false, eqb, pos, Float, if◌then◌else◌, None, Some}
+use Rattle.std.specs.Prelude.{ℕ, ◌^◌, ◌<◌, ◌≡◌, Bool, true, false, eqb, pos, Float, if◌then◌else◌, None, Some, Option}
 use Rattle.std.specs.Float.{nan, inf, fin, binary64}
 use Rattle.std.specs.Float.Ieee.{of_int, div, round, le}
 use Rattle.outcome.specs.Outcome.{Figure}
 use Rattle.outcome.specs.declared.Outcome.{Outcome}
-use Rattle.ratio.specs.declared.Ratio.{Ratio}
 use Rattle.ratio.specs.declared.Utilization.{Utilization}
 
 -- ---- Doubles.
@@ -34,9 +33,19 @@ finite_nonneg (fin false m e) = true
 
 -- ---- One utilization, by either of the two.
 
+-- a double, 0.0 where none was reached or the divisor is 0, and the mark that says whether
+pub record Ratio : Type 0 where
+  pub value : Float
+  pub reached : Bool
+
 -- "a mark where none was reached or the divisor is 0"
 abbrev pub no_ratio : Ratio
 no_ratio = record { value = nought; reached = false }
+
+-- the same of an option
+abbrev pub as_ratio : Option Float → Ratio
+as_ratio None = no_ratio
+as_ratio (Some x) = record { value = x; reached = true }
 
 unfoldable pub ratio : (ℕ → ℕ → Float) → ℕ → ℕ → Ratio
 ratio over a b = if eqb b 0 then no_ratio else record { value = over a b; reached = true }
