@@ -6,7 +6,8 @@ use native.Mathlib.Nat.{add-zero, zero-add}
 use native.Mathlib.Omega.{arith, min_cases}
 use lib.ListN.{length, take, drop, length-append}
 use lib.Seq.{sets, sets-eq, length-sets, set_out, take-append_seam}
-use Rattle.text.specs.Put.{Put, advance, last_position}
+use Rattle.text.specs.Put.{Put, Wrote, advance, last_position}
+use Rattle.text.specs.declared.Writer.{Writer}
 
 -- ---- Runs of stores
 
@@ -38,6 +39,9 @@ put_then {d} {at} {s} {d₁} {p} {t} {d₂} {q} a b = record {
   next = rw length-append (omega (arith, a.next, b.next));
   short = a.short;
 }
+
+pub wrote_then : {w w₁ w₂ : Writer} {s t : List ℕ} → Wrote w s w₁ → Wrote w₁ t w₂ → Wrote w (s ++ t) w₂
+wrote_then a b = record { same = b.same ∙ a.same; put = put_then a.put b.put }
 
 -- the buffer keeps its length
 pub put_length : {d : List ℕ} {at : ℕ} {s d' : List ℕ} {r : ℕ} → Put d at s d' r → length d' ≡ length d
