@@ -1,7 +1,7 @@
--- A number and the question put to it, and what a run of fields says.
+-- A number and the question put to it.
 use Rattle.std.specs.Prelude.{Err, Ok}
 use Prim.Native.Nat.{ℕ}
-use mathlib.Core.Path.{◌≡◌, refl, sym, ap, ◌∙◌}
+use mathlib.Core.Path.{◌≡◌, refl, ap}
 use mathlib.Core.Bool.{Bool, true, false}
 use mathlib.Core.List.{List}
 use native.Mathlib.Omega.{arith}
@@ -12,8 +12,6 @@ use Rattle.varint.specs.Varint.{number_at}
 use Rattle.question.specs.Reading.{Reading, got, no, and_then, ask}
 use Rattle.field_validator.specs.Placed.{Placed, placed, of_number}
 use Rattle.field_validator.specs.FieldsAt.{checked}
-use Rattle.field_validator.specs.declared.FieldsRead.{FieldsRead}
-use Rattle.field_validator.specs.FieldsResult.{fields_read_of}
 
 -- a number passes its question, or is refused
 pub on_checked : (P : Reading Question (Placed ℕ) → Type 0) (q : Question) (test : ℕ → Bool) (s : List ℕ) (p : ℕ)
@@ -42,11 +40,3 @@ passes q test s p x next =
     let same : placed y after ≡ placed x next = cc in
     rw (← ap (λ (r : Placed ℕ). r.value) same) t)
     (λ r e. absurd (let z : ◌≡◌ {A = ℕ} 0 1 = cc in omega arith))
-
-pub fields_got : (r : FieldsRead) (o : Reading Question (Placed (List ℕ))) → r ≡ fields_read_of o → r.verdict ≡ (Ok tt) → o ≡ got (placed r.slots.v r.next)
-fields_got r (got f) e a = rw e
-fields_got r (no q) e a = absurd (let z : ◌≡◌ {A = ℕ} 0 1 = cc in omega arith)
-
-pub fields_no : (r : FieldsRead) (o : Reading Question (Placed (List ℕ))) (q : Question) → r ≡ fields_read_of o → r.verdict ≡ Err q → o ≡ no q
-fields_no r (got f) q e a = absurd (let z : ◌≡◌ {A = ℕ} 0 1 = cc in omega arith)
-fields_no r (no p) q e a = let same : Err p ≡ Err q = sym (ap (λ (x : FieldsRead). x.verdict) e) ∙ a in cc
