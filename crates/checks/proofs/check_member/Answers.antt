@@ -6,13 +6,11 @@ pub check_beam-requires : goal.check_beam-requires
 check_beam-requires c =
     rw c.beam_of.ensures (as_beam _ _ _ c.in-Beam.is c.requires)
 
-pub check_column-requires : goal.check_column-requires
-check_column-requires c =
-    rw c.column_of.ensures (as_column _ _ (cc) c.requires)
+pub invariant_of-check_column : goal.invariant_of-check_column
+invariant_of-check_column c = record { accepted = rw c.column_of.ensures (as_column _ _ (cc) c.requires) }
 
-pub check_mesh-requires : goal.check_mesh-requires
-check_mesh-requires c =
-    rw c.mesh_of.ensures (as_mesh _ _ (cc) c.requires)
+pub invariant_of-check_mesh : goal.invariant_of-check_mesh
+invariant_of-check_mesh c = record { accepted = rw c.mesh_of.ensures (as_mesh _ _ (cc) c.requires) }
 
 pub returns-in-Beam : goal.returns-in-Beam
 returns-in-Beam c =
