@@ -1,5 +1,5 @@
 -- The utilization of a member as a struct, for callers in C and Rust.
-use Rattle.std.specs.Prelude.{true, false}
+use Rattle.std.specs.Prelude.{true, false, Option, None, Some, Float}
 use Rattle.ratio.specs.Ratio.{nought}
 use Rattle.governing.specs.Governing.{governing_of}
 use Rattle.utilization.specs.Utilized.{Values}

@@ -18,7 +18,7 @@ use member::{Beam, Column, Mesh};
 use outcome::Outcome;
 use quantity::{Length, div_down};
 use question::Refusal;
-use ratio::{Utilization, no_ratio, over_figure, over_limit, together};
+use ratio::{Utilization, over_figure, over_limit, together};
 use verdict::{Built, built_verdict};
 
 // The limit of the deflection over a span, 0.01 mm.
@@ -34,15 +34,11 @@ fn beam_utilization(x: Beam, o: Outcome) -> Utilization
     requires { (AcceptedBeam (beam_of x)) × (ExactFigures o) }
     ensures { result ≡ beam_utilization quotient (beam_of x) o }
 {
-    let first = o.first;
-    let second = o.second;
-    let third = o.third;
-    let fourth = o.fourth;
     together(
-        over_figure(x.M, first),
-        over_figure(x.v.in_newtons(), second),
-        over_limit(third, width_limit(x.environment)),
-        over_limit(fourth, deflection_limit(x.l0, x.strict)),
+        over_figure(x.M, o.first),
+        over_figure(x.v.in_newtons(), o.second),
+        over_limit(o.third, width_limit(x.environment)),
+        over_limit(o.fourth, deflection_limit(x.l0, x.strict)),
     )
 }
 
@@ -50,26 +46,18 @@ fn column_utilization(x: Column, o: Outcome) -> Utilization
     requires { (AcceptedColumn (column_of x)) × (ExactFigures o) }
     ensures { result ≡ column_utilization quotient (column_of x) o }
 {
-    let first = o.first;
-    together(
-        over_figure(x.N.in_newtons(), first),
-        no_ratio(),
-        no_ratio(),
-        no_ratio(),
-    )
+    together(over_figure(x.N.in_newtons(), o.first), None, None, None)
 }
 
 fn mesh_utilization(x: Mesh, o: Outcome) -> Utilization
     requires { (AcceptedMesh (mesh_of x)) × (ExactFigures o) }
     ensures { result ≡ mesh_utilization quotient (mesh_of x) o }
 {
-    let first = o.first;
-    let second = o.second;
     together(
-        over_limit(first, x.anchorage.in_millimetres()),
-        over_limit(second, x.lap.in_millimetres()),
-        no_ratio(),
-        no_ratio(),
+        over_limit(o.first, x.anchorage.in_millimetres()),
+        over_limit(o.second, x.lap.in_millimetres()),
+        None,
+        None,
     )
 }
 
@@ -85,16 +73,13 @@ fn member_utilization(mark: u32, kind: MemberKind, v: &[u32; 40], o: Outcome) ->
     }
 }
 
-// The utilization of a member that a caller built.
+// The utilization of a member that a caller built, or the first question answered no.
 pub fn utilization_of(x: Built) -> Result<Utilization, Refusal>
     ensures { Utilized x result }
 {
     let v = x.fields.v;
     match built_verdict(x.mark, x.kind, &v) {
-        Err(q) => Err(Refusal {
-            question: q,
-            member: 1,
-        }),
+        Err(q) => Err(q.at(1)),
         Ok(()) => {
             let kind = kind_of(x.kind);
             let o = check_member(x.mark, kind, &v);
