@@ -2,15 +2,8 @@
 use mathlib.Core.Path.{◌∙◌}
 use native.Mathlib.Omega.{arith}
 use Rattle.field_validator.proofs.Taken.{column_rows}
-use Rattle.field_reader.proofs.Rows.{same_got, first_got, then_got, then_is}
+use Rattle.field_reader.proofs.Rows.{same_got, then_got, then_is}
 use Rattle.field_reader.proofs.read_column.Goals as goal
-
-pub read_row-groups-requires : goal.read_row-groups-requires
-read_row-groups-requires c = (omega arith, omega arith, first_got _ _ (same_got (column_rows _ _ _) c.requires))
-
-pub read_list-links-requires : goal.read_list-links-requires
-read_list-links-requires c =
-    (omega arith, first_got _ _ (then_got _ _ _ c.read_row-groups.ensures (same_got (column_rows _ _ _) c.requires)))
 
 pub read_row-requires : goal.read_row-requires
 read_row-requires c = (
