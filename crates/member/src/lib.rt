@@ -6,7 +6,7 @@ ghost use Rattle.member.specs.Member.{h₀, beam_of};
 
 use bars::Groups;
 use quantity::{Force, Length};
-pub use valid::{ValidBeam, ValidColumn, ValidMesh};
+pub use valid::{RangedBeam, ValidBeam, ValidColumn, ValidMesh};
 
 mod valid;
 

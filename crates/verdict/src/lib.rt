@@ -12,6 +12,7 @@ use field_check::{Slots, fields_hold};
 use field_domain::in_range;
 use field_layout::{beam_of, column_of, mesh_of};
 use field_table::{MemberKind, is_known, kind_of};
+use member::RangedBeam;
 use question::Question;
 use reinforcement::{beam_bars, beam_ratio, column_bars};
 use service_moment::service_moment_fits;
@@ -36,11 +37,13 @@ fn beam_verdict(pointLoad: bool, v: &[u32; 40]) -> Result<(), Question>
     requires { fields_hold beam_fields 0 v.now ≡ true }
     ensures { result ≡ beam_verdict (beam_at pointLoad v.now) }
 {
-    let x = beam_of(pointLoad, v);
+    let x = RangedBeam {
+        beam: beam_of(pointLoad, v),
+    };
     let consistent = beam_consistent(x);
     let bars = beam_bars(x);
     let ratio = beam_ratio(x);
-    let service = service_moment_fits(x);
+    let service = service_moment_fits(x.beam);
     let after10 = ask(Question::ServiceMoment, service, Ok(()));
     let after9 = ask(Question::Ratio, ratio, after10);
     let after8 = ask(Question::Bars, bars, after9);
