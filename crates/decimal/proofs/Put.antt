@@ -6,7 +6,8 @@ use native.Mathlib.Omega.{arith}
 use lib.ListN.{length, take}
 use lib.Seq.{take-length}
 use Rattle.text.specs.declared.Writer.{Writer}
-use Rattle.text.specs.Put.{Put, Wrote}
+use Rattle.text.specs.Put.{Put}
+use Rattle.text.specs.Wrote.{Wrote}
 use Rattle.text.proofs.Put.{put_length, put_read}
 
 -- the room that is left after a text of at most k bytes

@@ -4,7 +4,7 @@ use mathlib.Core.Path.{◌≡◌, refl}
 use mathlib.Core.List.{List, [], ◌∷◌, ◌++◌, append_assoc}
 use Rattle.text.specs.Text.{joined_by, ended_by, text_of}
 use Rattle.text.specs.declared.Writer.{Writer}
-use Rattle.text.specs.Put.{Wrote}
+use Rattle.text.specs.Wrote.{Wrote}
 use Rattle.text.proofs.Put.{wrote_then}
 use Rattle.line.specs.Line.{line_text}
 

@@ -3,7 +3,7 @@
 
 ghost use Rattle.std.specs.Prelude.{◌∷◌, ◌++◌, []};
 ghost use Rattle.text.specs.Text.{decimal};
-ghost use Rattle.text.specs.Put.{Wrote};
+ghost use Rattle.text.specs.Wrote.{Wrote};
 ghost use Rattle.line.specs.Line.{figure_word, line_words, head_words, refusal_words, line_text};
 
 use check_name::name_of;

@@ -1,7 +1,6 @@
 -- What putting a text, or other bytes, does to a lent buffer.
 use Rattle.std.specs.Prelude.{ℕ, ◌+◌, ◌<◌, min, ◌≡◌, List, length}
 use Rattle.std.proofs.lemmas.List.Edits.{sets}
-use Rattle.text.specs.declared.Writer.{Writer}
 
 -- the largest position, 2^64 - 1; no buffer reaches it
 abbrev pub last_position : ℕ
@@ -17,8 +16,3 @@ pub record Put (d : List ℕ) (at : ℕ) (s d' : List ℕ) (r : ℕ) : Type 0 wh
   pub bytes : d' ≡ sets d at s
   pub next : r ≡ advance at (length s)
   pub short : length d < last_position
-
--- A writer puts the text s: it keeps its buffer.
-pub record Wrote (w : Writer) (s : List ℕ) (w' : Writer) : Type 0 where
-  pub same : w'.out.ghost_name ≡ w.out.ghost_name
-  pub put : Put w.out.now w.at s w'.out.now w'.at

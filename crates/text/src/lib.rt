@@ -2,17 +2,20 @@
 // learns a text's length.
 #![tactic(auto)]
 
-ghost use Rattle.std.specs.Prelude.{◌≡◌, ◌∷◌, []};
-ghost use Rattle.text.specs.Put.{Wrote};
+ghost use Rattle.std.specs.Prelude.{◌≡◌, ◌≤◌, ◌∷◌, []};
+ghost use Rattle.text.specs.Put.{last_position};
 
 // A lent buffer and the place of its next byte.
 #[derive(Drop)]
 pub struct Writer<'a> {
     pub out: &'a mut [u8],
     pub at: usize,
+    ghost placed: { at ≤ last_position },
 }
 
 impl<'a> Writer<'a> {
+    ghost use Rattle.text.specs.Wrote.{Wrote};
+
     // From the buffer's start on.
     pub fn new(out: &'a mut [u8]) -> Writer<'a>
         ensures same { result.out.ghost_name ≡ out.entry.ghost_name }

@@ -5,7 +5,4 @@ use Rattle.text_answer.proofs.print_line.Goals as goal
 
 pub returns-then-out-ge55 : goal.returns-then-out-ge55
 returns-then-out-ge55 c =
-    printed_whole _ _ _ (le_trans c.requires c.if-out-ge55.true) c.put_line.ensures
-
-pub returns-else-out-ge55 : goal.returns-else-out-ge55
-returns-else-out-ge55 c = c.print_measured_line.ensures
+    printed_whole _ _ _ (le_trans c.requires c.if-out-ge55.true) c.put_alone.ensures

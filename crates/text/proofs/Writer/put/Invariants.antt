@@ -1,5 +1,5 @@
 use lib.ListN.{take}
-use Rattle.text.specs.Put.{Wrote}
+use Rattle.text.specs.Wrote.{Wrote}
 use Rattle.text.proofs.Writer.put.Given as goal
 
 abbrev pub invariant-loop-b : goal.invariant-loop-b
