@@ -13,7 +13,7 @@ ghost use Rattle.koxaltes.specs.Entries.{lent_report_of, ReportEntry, MemberEntr
 ghost use Rattle.koxaltes.specs.UtilizationEntry.{lent_utilization_of, UtilizationEntry};
 
 use answer_record::{AnswerRecord, UtilizationRecord, answer_record, utilization_record};
-use bars::Group;
+use bars::{Group, Groups};
 use lent_groups::first_groups;
 use lent_member::{Lent, built_from, first_count, second_count};
 use report::{member_report, report};
@@ -73,7 +73,10 @@ pub fn koxaltes_member_utilization(x: Lent, first: &[Group], second: &[Group]) -
 pub fn koxaltes_bar_totals(groups: &[Group], count: usize) -> BarTotals
     ensures { result ≡ bar_totals count groups.now }
 {
-    copied_totals(first_groups(groups, count), count)
+    copied_totals(Groups {
+        list: first_groups(groups, count),
+        count,
+    })
 }
 
 // The file of a schedule held as words, 42 to a member: mark, kind, and 40 slots with its fields in the order of a schedule, four groups to
