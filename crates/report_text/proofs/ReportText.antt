@@ -5,7 +5,8 @@ use mathlib.Core.List.{List, [], ◌∷◌, ◌++◌, map}
 use native.Mathlib.Omega.{arith}
 use lib.ListN.{length}
 use Rattle.text.specs.Text.{text_of, ended_by}
-use Rattle.text.specs.Put.{Put}
+use Rattle.text.specs.declared.Writer.{Writer}
+use Rattle.text.specs.Wrote.{Wrote}
 use Rattle.line.specs.Line.{line_words, head_words, line_text}
 use Rattle.line.proofs.Text.{text_append}
 use Rattle.question.specs.declared.Question.{Question}
@@ -60,9 +61,9 @@ mark_of_lem mark kinds.Column v = refl
 mark_of_lem mark kinds.Mesh v = refl
 
 -- what is put for a member is its text
-pub put_member : (b : Built) {d d' : List ℕ} {at r : ℕ} (o : Outcome) → o ≡ outcome_of (member_of b) →
-    Put d at (line_text (line_words b.mark o)) d' r → Put d at (member_text (member_of b)) d' r
-put_member b o e w = rw (mark_of_lem b.mark (kind_of b.kind) b.fields.v, ← e) w
+pub wrote_member : (b : Built) {w w' : Writer} (o : Outcome) → o ≡ outcome_of (member_of b) →
+    Wrote w (line_text (line_words b.mark o)) w' → Wrote w (member_text (member_of b)) w'
+wrote_member b o e h = rw (mark_of_lem b.mark (kind_of b.kind) b.fields.v, ← e) h
 
 -- ---- All of them.
 

@@ -3,6 +3,7 @@
 
 ghost use Rattle.std.specs.Prelude.{◌++◌};
 ghost use Rattle.text.specs.Put.{Put};
+ghost use Rattle.text.specs.Wrote.{Wrote};
 ghost use Rattle.line.specs.Line.{head_words, line_text};
 ghost use Rattle.text_answer.specs.Printed.{text_too_long, Printed};
 ghost use Rattle.report_text.specs.ReportText.{AcceptedFrom, lines_from};
@@ -11,25 +12,21 @@ use checks::check_member;
 use field_table::kind_of;
 use line::{put_head, put_line};
 use members::read_member;
-use question::Question;
-use text_answer::no_room;
+use question::{Question, Refusal};
+use text::Writer;
 
-// The lines of `count` accepted members from `at` on, into the buffer from `to` on: the place after them.
-fn put_members(src: &[u8], at: usize, count: u32, out: &mut [u8], to: usize) -> usize
+// The lines of `count` accepted members from `at` on.
+fn put_members(w: &mut Writer, src: &[u8], at: usize, count: u32)
     requires { AcceptedFrom count src.now at }
-    ensures { Put out.old to (lines_from count src.now at) out.new result }
+    ensures { Wrote w.old (lines_from count src.now at) w.new }
 {
     let mut p = at;
-    let mut left = count;
-    let mut q = to;
-    while 0 < left {
+    for _ in 0..count {
         let mut v = [0u32; 40];
         let r = read_member(src, p, &mut v);
-        q = put_line(out, q, r.mark, check_member(r.mark, kind_of(r.kind), &v));
+        put_line(w, r.mark, check_member(r.mark, kind_of(r.kind), &v));
         p = r.next;
-        left -= 1;
     }
-    q
 }
 
 // The whole text of `count` accepted members from `at` on: its length.
@@ -37,8 +34,10 @@ fn put_report(src: &[u8], at: usize, count: u32, out: &mut [u8]) -> usize
     requires { AcceptedFrom count src.now at }
     ensures { Put out.old 0 (line_text (head_words count) ++ lines_from count src.now at) out.new result }
 {
-    let p = put_head(out, 0, count);
-    put_members(src, at, count, out, p)
+    let mut w = Writer::new(out);
+    put_head(&mut w, count);
+    put_members(&mut w, src, at, count);
+    w.at
 }
 
 // The report of `count` accepted members from `at` on. The first run only finds how long it is.
@@ -46,10 +45,9 @@ fn print_measured(src: &[u8], at: usize, count: u32, out: &mut [u8]) -> Result<u
     requires { AcceptedFrom count src.now at }
     ensures { Printed (text_too_long 0) (line_text (head_words count) ++ lines_from count src.now at) out.old out.new result }
 {
-    let mut none = [0u8; 1];
-    let n = put_report(src, at, count, &mut none);
+    let n = put_report(src, at, count, &mut []);
     if out.len() < n {
-        no_room(Question::Buffer, 0)
+        Err(Question::Buffer.at(0))
     } else {
         Ok(put_report(src, at, count, out))
     }

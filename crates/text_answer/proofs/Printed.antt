@@ -8,6 +8,8 @@ use native.Mathlib.Decide.{dec_le}
 use borrow.Author.Tests.{le-leb, lt-leb}
 use lib.ListN.{length, take, drop}
 use lib.Seq.{take-append_seam}
+use Rattle.text.specs.declared.Writer.{Writer}
+use Rattle.text.specs.Wrote.{Wrote}
 use Rattle.text.specs.Put.{Put, last_position}
 use Rattle.text.proofs.Put.{fits, too_long, put_whole, learnt_length}
 use Rattle.question.specs.declared.Refusal.{Refusal}
@@ -15,6 +17,10 @@ use Rattle.question.specs.Reading as reading
 use Rattle.text_answer.specs.Printed.{TextAnswer}
 use Rattle.question.proofs.Numbers.{numbered}
 use Rattle.text_answer.specs.Printed.{written, refused, numbers_of, answered, buffer_after, Printed}
+
+-- what a writer put, from the buffer's start on: d' is what the buffer then holds
+pub put_from : {w w' : Writer} {s d d' : List ℕ} → Wrote w s w' → w.at ≡ 0 → w.out.now ≡ d → d' ≡ w'.out.now → Put d 0 s d' w'.at
+put_from h a e f = rw (f, ← e, ← a) h.put
 
 -- a text that fits
 pub printed_whole : (full : Refusal) (text d : List ℕ) {d' : List ℕ} {r : ℕ} → length text ≤ length d → Put d 0 text d' r → Printed full text d d' (Ok r)

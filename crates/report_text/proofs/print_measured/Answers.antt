@@ -1,10 +1,12 @@
 -- `report_text::print_measured` meets its contract.
+use Rattle.std.specs.Prelude.{Err}
+use mathlib.Core.Path.{ap}
 use native.Mathlib.Omega.{arith}
 use Rattle.text_answer.proofs.Printed.{printed, unprinted}
 use Rattle.report_text.proofs.print_measured.Goals as goal
 
 pub returns-then-out-n : goal.returns-then-out-n
-returns-then-out-n c = unprinted _ _ _ _ _ _ c.put_report-n.ensures c.no_room.ensures c.if-out-n.true
+returns-then-out-n c = unprinted _ _ _ _ _ _ c.put_report-n.ensures (ap Err c.at.ensures) c.if-out-n.true
 
 pub returns-else-out-n : goal.returns-else-out-n
 returns-else-out-n c =

@@ -7,6 +7,3 @@ use Rattle.report_text.proofs.print_report.Goals as goal
 pub returns-then-count-out : goal.returns-then-count-out
 returns-then-count-out c =
     printed_whole _ _ _ (report_fits _ _ _ (omega arith) c.if-count-out.true) c.put_report.ensures
-
-pub returns-else-count-out : goal.returns-else-count-out
-returns-else-count-out c = c.print_measured.ensures
