@@ -5,7 +5,7 @@ use mathlib.Core.Bool.{Bool, true, false}
 use mathlib.Core.List.{List, [], ◌∷◌, ◌++◌, append_assoc}
 use native.Mathlib.Numerals.{add-one}
 use native.Mathlib.Omega.{arith}
-use lib.ListN.{length, get_or, take, drop, drop_of_length-le}
+use lib.ListN.{length, get_or, drop, drop_of_length-le}
 use lib.Seq.{drop-cons}
 use native.Mathlib.Decide.{dec_le}
 use Rattle.field_domain.proofs.InRange.{in_between}
@@ -32,13 +32,6 @@ row_more s i h = rw (add-one, drop-cons s i 0 h)
 pub row_none : (s : List ℕ) (i : ℕ) → length s ≤ i → bytes_of_all (drop i s) ≡ []
 unfolding bytes_of_all
 row_none s i h = rw (drop_of_length-le s h)
-
--- slots as a slice
-pub part_is : (v : List ℕ) (i n : ℕ) → i + n ≤ length v → part v i n ≡ take n (drop i v)
-part_is v i zero h = refl
-part_is v i (suc n) h =
-    let l : i < length v = omega arith in
-    rw (drop-cons v i 0 l, part_is v (suc i) n (omega arith))
 
 -- ---- A list.
 

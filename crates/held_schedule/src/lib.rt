@@ -3,45 +3,28 @@
 #![tactic(auto)]
 
 ghost use Rattle.std.specs.Prelude.{◌≡◌, ◌+◌, ◌*◌, ◌≤◌, length};
-ghost use Rattle.field_layout.specs.Layout.{part};
 ghost use Rattle.members.specs.MembersResult.{headed};
 ghost use Rattle.schedule.specs.Schedule.{schedule_answer};
 ghost use Rattle.held_schedule.specs.HeldSchedule.{record_words, record_at, records_from, record_verdict, record_members, held_members};
 
 use members::Head;
 use question::{Question, Refusal};
-use schedule::ScheduleAnswer;
 use verdict::built_verdict;
 
 // The words of a member's record: its mark, its kind, and 40 slots that hold its fields in the order of its kind's table.
 const RECORD_WORDS: usize = 42;
-
-// The 40 words from `at` on, into slots.
-fn copy_slots(words: &[u32], at: usize, v: &mut [u32; 40])
-    requires { at + 40 ≤ length words.now }
-    ensures { v.new ≡ part words.now at 40 }
-{
-    // as a slice: its length is then known to the proof
-    let s: &mut [u32] = v;
-    let mut i: usize = 0;
-    let mut p = at;
-    while i < 40 {
-        s[i] = words[p];
-        i += 1;
-        p += 1;
-    }
-}
 
 // The record at word `at`: its fields into slots; its mark and kind, and the word after it.
 pub fn read_record(words: &[u32], at: usize, v: &mut [u32; 40]) -> Head
     requires { at + record_words ≤ length words.now }
     ensures { (headed result v.new ≡ record_at words.now at) × (result.next ≡ at + record_words) }
 {
-    copy_slots(words, at + 2, v);
+    let next = at + RECORD_WORDS;
+    v.copy_from_slice(&words[at + 2..next]);
     Head {
         mark: words[at],
         kind: words[at + 1],
-        next: at + RECORD_WORDS,
+        next,
     }
 }
 
@@ -64,25 +47,12 @@ fn validate_records(words: &[u32], count: u32) -> Result<u32, Refusal>
     requires { (count ≤ 500) × (count * record_words ≤ length words.now) }
     ensures { result ≡ schedule_answer (record_members 0 1 (records_from count words.now 0)) }
 {
-    let mut p: usize = 0;
-    let mut before: u32 = 0;
-    let mut i: u32 = 1;
-    let mut left = count;
-    while 0 < left {
-        match record_verdict(words, p, before) {
-            Err(q) => {
-                return Err(Refusal {
-                    question: q,
-                    member: i,
-                });
-            }
-            Ok(()) => {
-                before = words[p];
-                p += RECORD_WORDS;
-                i += 1;
-                left -= 1;
-            }
-        }
+    let mut p = 0;
+    let mut before = 0;
+    for i in 0..count {
+        record_verdict(words, p, before).map_err(|q| q.at(i + 1))?;
+        before = words[p];
+        p += RECORD_WORDS;
     }
     Ok(count)
 }
@@ -93,10 +63,7 @@ pub fn validate_held(words: &[u32]) -> Result<u32, Refusal>
 {
     let count = words.len() / RECORD_WORDS;
     if 500 < count {
-        Err(Refusal {
-            question: Question::Count,
-            member: 0,
-        })
+        Err(Question::Count.at(0))
     } else {
         validate_records(words, count as u32)
     }

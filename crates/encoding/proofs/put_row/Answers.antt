@@ -2,7 +2,8 @@
 use Prim.Native.Nat.{◌-◌}
 use native.Mathlib.Omega.{arith}
 use Rattle.text.proofs.Put.{leaves_all, leaves_more, leaves_none}
-use Rattle.encoding.proofs.Rows.{row_more, row_none, part_is}
+use Rattle.field_layout.proofs.Part.{part_slice}
+use Rattle.encoding.proofs.Rows.{row_more, row_none}
 use Rattle.encoding.proofs.put_row.Goals as goal
 
 pub loop-n-init : goal.loop-n-init
@@ -14,5 +15,5 @@ loop-n-preserved c =
 
 pub returns : goal.returns
 returns c =
-    rw (part_is c.args.v.now c.args.from (c.args.end - c.args.from) (omega arith))
+    rw (part_slice c.args.v.now c.args.from (c.args.end - c.args.from) (omega arith))
     (leaves_none (rw (row_none _ c.loop-n.n-index c.loop-n-test.false) at c.loop-n.invariant))
