@@ -50,7 +50,9 @@ fn validate_records(words: &[u32], count: u32) -> Result<u32, Refusal>
     let mut p = 0;
     let mut before = 0;
     for i in 0..count {
-        record_verdict(words, p, before).map_err(|q| q.at(i + 1))?;
+        if let Err(q) = record_verdict(words, p, before) {
+            return Err(q.at(i + 1));
+        }
         before = words[p];
         p += RECORD_WORDS;
     }

@@ -4,9 +4,8 @@
 ghost use Rattle.program_output.specs.ProgramOutput.{PrintedSchedule};
 
 use line::put_refusal;
-use question::number_of;
 use report::report;
-use text_answer::TextAnswer;
+use text::Writer;
 
 // The report of a schedule's bytes, or `refused N member M`, from the buffer's first byte on: how many bytes.
 pub fn print_schedule(src: &[u8], out: &mut [u8]) -> usize
@@ -15,8 +14,9 @@ pub fn print_schedule(src: &[u8], out: &mut [u8]) -> usize
     match report(src, out) {
         Ok(n) => n,
         Err(r) => {
-            let question = r.question;
-            put_refusal(out, 0, number_of(question), r.member)
+            let mut w = Writer::new(out);
+            put_refusal(&mut w, u32::from(r.question), r.member);
+            w.at
         }
     }
 }

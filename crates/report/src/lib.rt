@@ -29,15 +29,8 @@ fn members_start(src: &[u8]) -> usize
 pub fn report(src: &[u8], out: &mut [u8]) -> Result<usize, Refusal>
     ensures { Reported src.now out.old out.new result }
 {
-    match validate_schedule(src) {
-        Err(r) => Err(r),
-        Ok(count) => print_report(
-            src,
-            members_start(src),
-            count,
-            out,
-        ),
-    }
+    let count = validate_schedule(src)?;
+    print_report(src, members_start(src), count, out)
 }
 
 // The line of a member that a caller built.
@@ -46,10 +39,7 @@ pub fn member_report(x: Built, out: &mut [u8]) -> Result<usize, Refusal>
 {
     let v = x.fields.v;
     match built_verdict(x.mark, x.kind, &v) {
-        Err(q) => Err(Refusal {
-            question: q,
-            member: 1,
-        }),
+        Err(q) => Err(q.at(1)),
         Ok(()) => print_line(x.mark, check_member(x.mark, kind_of(x.kind), &v), out),
     }
 }

@@ -3,6 +3,7 @@
 
 ghost use Rattle.std.specs.Prelude.{◌++◌, ◌*◌, ◌≤◌, length};
 ghost use Rattle.text.specs.Put.{Put};
+ghost use Rattle.text.specs.Wrote.{Wrote};
 ghost use Rattle.varint.specs.Encoding.{bytes_of};
 ghost use Rattle.text_answer.specs.Printed.{Printed};
 ghost use Rattle.held_schedule.specs.HeldSchedule.{record_words, records_from};
@@ -11,26 +12,21 @@ ghost use Rattle.writer.specs.Written.{file_too_long, ScheduleWritten};
 
 use encoding::{put_member, put_number};
 use held_schedule::{read_record, validate_held};
-use question::Question;
-use schedule::ScheduleAnswer;
-use text_answer::no_room;
+use question::{Question, Refusal};
+use text::Writer;
 
-// The bytes of the first `count` records, into the buffer from `to` on: the place after them.
-fn put_records(words: &[u32], count: u32, out: &mut [u8], to: usize) -> usize
+// The bytes of the first `count` records.
+fn put_records(w: &mut Writer, words: &[u32], count: u32)
     requires { (count * record_words ≤ length words.now) × AllInRange (records_from count words.now 0) }
-    ensures { Put out.old to (records_bytes (records_from count words.now 0)) out.new result }
+    ensures { Wrote w.old (records_bytes (records_from count words.now 0)) w.new }
 {
-    let mut p: usize = 0;
-    let mut left = count;
-    let mut q = to;
-    while 0 < left {
+    let mut p = 0;
+    for _ in 0..count {
         let mut v = [0u32; 40];
         let r = read_record(words, p, &mut v);
-        q = put_member(out, q, r.mark, r.kind, &v);
+        put_member(w, r.mark, r.kind, &v);
         p = r.next;
-        left -= 1;
     }
-    q
 }
 
 // The whole file: its length.
@@ -38,8 +34,10 @@ fn put_schedule(words: &[u32], count: u32, out: &mut [u8]) -> usize
     requires { (count * record_words ≤ length words.now) × AllInRange (records_from count words.now 0) }
     ensures { Put out.old 0 (bytes_of count ++ records_bytes (records_from count words.now 0)) out.new result }
 {
-    let p = put_number(out, 0, count);
-    put_records(words, count, out, p)
+    let mut w = Writer::new(out);
+    put_number(&mut w, count);
+    put_records(&mut w, words, count);
+    w.at
 }
 
 // The file of the first `count` records. The first run only finds how long it is.
@@ -47,10 +45,9 @@ fn write_measured(words: &[u32], count: u32, out: &mut [u8]) -> Result<usize, Re
     requires { (count * record_words ≤ length words.now) × AllInRange (records_from count words.now 0) }
     ensures { Printed file_too_long (bytes_of count ++ records_bytes (records_from count words.now 0)) out.old out.new result }
 {
-    let mut none = [0u8; 1];
-    let n = put_schedule(words, count, &mut none);
+    let n = put_schedule(words, count, &mut []);
     if out.len() < n {
-        no_room(Question::File, 0)
+        Err(Question::File.at(0))
     } else {
         Ok(put_schedule(words, count, out))
     }
@@ -72,8 +69,6 @@ fn write_records(words: &[u32], count: u32, out: &mut [u8]) -> Result<usize, Ref
 pub fn write_schedule(words: &[u32], out: &mut [u8]) -> Result<usize, Refusal>
     ensures { ScheduleWritten words.now out.old out.new result }
 {
-    match validate_held(words) {
-        Err(r) => Err(r),
-        Ok(count) => write_records(words, count, out),
-    }
+    let count = validate_held(words)?;
+    write_records(words, count, out)
 }

@@ -14,7 +14,7 @@ print_line-requires c =
     line_fits c.args.x _ (sym c.built_verdict.ensures ∙ c.in-Ok.is) (rw c.kind_of.ensures at c.check_member.ensures)
 
 pub returns-in-Err : goal.returns-in-Err
-returns-in-Err c = member_refused _ _ _ (sym c.built_verdict.ensures ∙ c.in-Err.is)
+returns-in-Err c = rw c.at.ensures (member_refused _ _ _ (sym c.built_verdict.ensures ∙ c.in-Err.is))
 
 pub returns-in-Ok : goal.returns-in-Ok
 returns-in-Ok c =

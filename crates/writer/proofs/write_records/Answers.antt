@@ -7,6 +7,3 @@ pub returns-then-count-out : goal.returns-then-count-out
 returns-then-count-out c =
     let pre = c.requires in
     printed_whole _ _ _ (records_fit _ _ _ pre.0 pre.2 c.if-count-out.true) c.put_schedule.ensures
-
-pub returns-else-count-out : goal.returns-else-count-out
-returns-else-count-out c = c.write_measured.ensures
