@@ -145,7 +145,9 @@ member_parts s p before x e =
     on_verdict m k f a b c h g (Err q) e = absurd (no_got e)
 
 value_is : (n : Number) (x next y after : ℕ) → n ≡ Ok (x, next) → n ≡ Ok (y, after) → (x ≡ y) × (next ≡ after)
-value_is n x next y after e f = (cc, cc)
+value_is n x next y after e f =
+    let same : placed x next ≡ placed y after = got_is (ap of_number (sym e ∙ f)) in
+    (ap (λ (r : Placed ℕ). r.value) same, ap (λ (r : Placed ℕ). r.next) same)
 
 value_got : {n : Number} {x next : ℕ} → n ≡ Ok (x, next) → Got (of_number n)
 unfolding Got

@@ -1,5 +1,6 @@
 -- The steps of reading members, as the code takes them.
-use Rattle.std.specs.Prelude.{Err, Ok}
+use Rattle.std.specs.Prelude.{Err, Ok, Result}
+use Rattle.field_domain.specs.declared.Domain.{Domain}
 use Prim.Native.Nat.{ℕ, zero, suc, ◌+◌, ◌-◌, ◌≤◌, ◌<◌}
 use mathlib.Core.Path.{◌≡◌, refl, sym, ap, ◌∙◌}
 use mathlib.Core.List.{List, [], ◌∷◌}
@@ -15,20 +16,34 @@ use Rattle.verdict.specs.declared.Built.{Built}
 use Rattle.question.specs.Reading.{Verdict}
 use Rattle.verdict.specs.Built.{member_of}
 use Rattle.verdict.specs.Verdict.{member_verdict}
-use Rattle.members.specs.declared.MemberValidated.{MemberValidated}
 use Rattle.question.specs.Reading.{Reading, got, no, and_then, passed, refusal, named}
 use Rattle.field_validator.specs.Placed.{Placed, placed, of_number}
+use Rattle.field_check.specs.declared.Slots.{Slots}
 use Rattle.field_validator.specs.FieldsAt.{empty, fields}
+use Rattle.field_validator.specs.FieldsResult.{fields_read_of}
 use Rattle.members.specs.Members.{member_body, mark_at, kind_at, member, members}
-use Rattle.members.specs.MembersResult.{validated_of, marked, members_end}
+use Rattle.members.specs.MembersResult.{marked, members_end}
 
 -- ---- A member.
 
-pub read_got : (r : MemberValidated) → r.verdict ≡ (Ok tt) → validated_of r ≡ got (placed r.mark r.next)
-read_got r e = rw e
+-- what the code's result for fields says of their reading
+module _ (fs : List Domain) (s : List ℕ) (p i : ℕ) (v : List ℕ) where
+  reading_of : Result (Slots × ℕ) Question → Reading Question (Placed (List ℕ))
+  reading_of (Ok (w, next)) = got (placed w.v next)
+  reading_of (Err q) = no q
 
-pub read_no : (r : MemberValidated) (q : Question) → r.verdict ≡ Err q → validated_of r ≡ no q
-read_no r q e = rw e
+  back : (o : Reading Question (Placed (List ℕ))) → o ≡ reading_of (fields_read_of o)
+  unfolding reading_of
+  back (got f) = refl
+  back (no q) = refl
+
+  pub fields_read : (w : Slots) (next : ℕ) → fields_read_of (fields fs s p i v) ≡ Ok (w, next) → fields fs s p i v ≡ got (placed w.v next)
+  unfolding reading_of
+  fields_read w next e = back (fields fs s p i v) ∙ ap reading_of e
+
+  pub fields_refused : (q : Question) → fields_read_of (fields fs s p i v) ≡ Err q → fields fs s p i v ≡ no q
+  unfolding reading_of
+  fields_refused q e = back (fields fs s p i v) ∙ ap reading_of e
 
 -- what the mark of a reading says of it
 record MarkedGot (o : Reading Question (Placed Built)) (mark next : ℕ) : Type 0 where
@@ -55,14 +70,14 @@ module _ (mark number : ℕ) (kind : MemberKind) (is : kind ≡ kind_of number) 
   unfolding member_body
   body_no q e = rw (← is, e)
 
-  pub body_passed : (v : List ℕ) (next : ℕ) → fields (fields_of kind) s p 0 empty ≡ got (placed v next)
-      → marked (member_body mark number s p) ≡ passed (member_verdict kind v) (got (placed mark next))
-  unfolding member_body
-  body_passed v next e = rw (← is, e) (on_verdict (member_verdict kind v))
-    where
-      on_verdict : (t : Verdict) → marked (passed t (got (placed (record { mark = mark; kind = number; fields = record { v = v } }) next))) ≡ passed t (got (placed mark next))
-      on_verdict (Ok tt) = refl
-      on_verdict (Err q) = refl
+  module _ (v : List ℕ) (next : ℕ) (e : fields (fields_of kind) s p 0 empty ≡ got (placed v next)) where
+    pub body_accepted : member_verdict kind v ≡ Ok tt → marked (member_body mark number s p) ≡ got (placed mark next)
+    unfolding member_body
+    body_accepted f = rw (← is, e, f)
+
+    pub body_refused : (q : Question) → member_verdict kind v ≡ Err q → marked (member_body mark number s p) ≡ no q
+    unfolding member_body
+    body_refused q f = rw (← is, e, f)
 
 module _ (s : List ℕ) (p before : ℕ) where
   pub mark_refused : (n : Number) (q : Question) → of_number n ≡ mark_at s p before → n ≡ Err q → member s p before ≡ no q
@@ -84,30 +99,27 @@ pub no_member : (n : ℕ) (s : List ℕ) (p before i : ℕ) → n ≤ 0 → memb
 unfolding members
 no_member n s p before i h = let e : n ≡ 0 = omega arith in rw e
 
-module _ (n : ℕ) (s : List ℕ) (p before i : ℕ) (h : 0 < n) where
-  one_more : n ≡ suc (n - 1)
-  one_more = omega arith
+pub member_refused : (n : ℕ) (s : List ℕ) (p before i : ℕ) → 0 < n → (q : Question) → marked (member s p before) ≡ no q → members n s p before i ≡ no (refusal q i)
+unfolding members
+member_refused n s p before i h q e = let one_more : n ≡ suc (n - 1) = omega arith in rw (one_more, marked_no (member s p before) q e)
 
-  pub member_refused : (q : Question) → marked (member s p before) ≡ no q → members n s p before i ≡ no (refusal q i)
-  unfolding members
-  member_refused q e = rw (one_more, marked_no (member s p before) q e)
-
+module _ (n m : ℕ) (s : List ℕ) (p before i : ℕ) (one_more : n ≡ suc m) where
   pub member_read : (mark next : ℕ) → marked (member s p before) ≡ got (placed mark next)
-      → members_end (members n s p before i) ≡ members_end (members (n - 1) s next mark (i + 1))
+      → members_end (members n s p before i) ≡ members_end (members m s next mark (i + 1))
   unfolding members
   member_read mark next e =
-      let m = marked_got (member s p before) mark next e in
+      let b = marked_got (member s p before) mark next e in
       ap (λ (k : ℕ). members_end (members k s p before i)) one_more
-      ∙ after m.built m.was
-      ∙ ap (λ (k : ℕ). members_end (members (n - 1) s next k (i + 1))) m.mark_is
+      ∙ after b.built b.was
+      ∙ ap (λ (k : ℕ). members_end (members m s next k (i + 1))) b.mark_is
     where
       kept : (m : Member) (o : Reading Refusal (Placed (List Member)))
           → members_end (and_then o (λ ms. got (placed (m ∷ ms.value) ms.next))) ≡ members_end o
       kept m (got ms) = refl
       kept m (no r) = refl
 
-      after : (b : Built) → member s p before ≡ got (placed b next) → members_end (members (suc (n - 1)) s p before i) ≡ members_end (members (n - 1) s next b.mark (i + 1))
-      after b f = rw f (kept (member_of b) (members (n - 1) s next b.mark (i + 1)))
+      after : (b : Built) → member s p before ≡ got (placed b next) → members_end (members (suc m) s p before i) ≡ members_end (members m s next b.mark (i + 1))
+      after b f = rw f (kept (member_of b) (members m s next b.mark (i + 1)))
 
 -- What a row of n members that was read says of its first member and of the others.
 pub record FirstRead (n : ℕ) (s : List ℕ) (p before i : ℕ) (ms : List Member) (end : ℕ) : Type 0 where

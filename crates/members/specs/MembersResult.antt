@@ -4,13 +4,9 @@ use Rattle.question.specs.declared.Question.{Question}
 use Rattle.question.specs.declared.Refusal.{Refusal}
 use Rattle.member.specs.Member.{Member}
 use Rattle.verdict.specs.declared.Built.{Built}
-use Rattle.members.specs.declared.MemberValidated.{MemberValidated}
 use Rattle.members.specs.declared.Head.{Head}
 use Rattle.question.specs.Reading.{Reading, got, no, passed}
 use Rattle.field_validator.specs.Placed.{Placed, placed}
-
-abbrev pub validated_of : MemberValidated → Reading Question (Placed ℕ)
-validated_of r = passed r.verdict (got (placed r.mark r.next))
 
 -- the mark of a member that was read
 abbrev pub marked : Reading Question (Placed Built) → Reading Question (Placed ℕ)

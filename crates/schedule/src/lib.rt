@@ -2,45 +2,27 @@
 #![tactic(auto)]
 
 ghost use Rattle.std.specs.Prelude.{◌≡◌};
-ghost use Rattle.question.specs.Reading.{refusal};
 ghost use Rattle.schedule.specs.Schedule.{schedule, schedule_answer};
 
 use members::validate_members;
 use question::{Question, Refusal};
 use varint::number_at;
 
-fn refused(q: Question, member: u32) -> Result<u32, Refusal>
-    ensures { result ≡ Err (refusal q member) }
-{
-    Err(Refusal {
-        question: q,
-        member,
-    })
-}
-
 // The validator of a schedule: every question that is put to it before its report.
+#[tactic(auto, using(crate::proofs::Answers::too_long, crate::proofs::Answers::no_count, crate::proofs::Answers::too_many, crate::proofs::Answers::member_no, crate::proofs::Answers::bytes_left))]
 pub fn validate_schedule(src: &[u8]) -> Result<u32, Refusal>
     ensures { result ≡ schedule_answer (schedule src.now) }
 {
     if 60000 < src.len() {
-        return refused(Question::Size, 0);
+        return Err(Question::Size.at(0));
     }
-    match number_at(src, 0) {
-        Err(q) => refused(q, 0),
-        Ok((count, at)) => {
-            if 500 < count {
-                return refused(Question::Count, 0);
-            }
-            match validate_members(src, at, count) {
-                Err(r) => Err(r),
-                Ok(end) => {
-                    if end < src.len() {
-                        refused(Question::Trailing, 0)
-                    } else {
-                        Ok(count)
-                    }
-                }
-            }
-        }
+    let (count, at) = number_at(src, 0).map_err(|q| q.at(0))?;
+    if 500 < count {
+        return Err(Question::Count.at(0));
     }
+    let end = validate_members(src, at, count)?;
+    if end < src.len() {
+        return Err(Question::Trailing.at(0));
+    }
+    Ok(count)
 }

@@ -33,6 +33,7 @@ fn ask(q: Question, holds: bool, next: Result<(), Question>) -> Result<(), Quest
 }
 
 // 8, 9, 10 and 14 of a beam whose fields passed question 7. All are worked out; the first no is the answer.
+#[tactic(auto, unfolding(crate::specs::Verdict::beam_verdict))]
 fn beam_verdict(pointLoad: bool, v: &[u32; 40]) -> Result<(), Question>
     requires { fields_hold beam_fields 0 v.now ≡ true }
     ensures { result ≡ beam_verdict (beam_at pointLoad v.now) }
@@ -51,6 +52,7 @@ fn beam_verdict(pointLoad: bool, v: &[u32; 40]) -> Result<(), Question>
 }
 
 // 8 and 9 of a column whose fields passed question 7.
+#[tactic(auto, using(field_layout::proofs::Held::column_groups_of), unfolding(crate::specs::Verdict::column_verdict))]
 fn column_verdict(v: &[u32; 40]) -> Result<(), Question>
     requires { fields_hold column_fields 0 v.now ≡ true }
     ensures { result ≡ column_verdict (column_at v.now) }
@@ -63,17 +65,15 @@ fn column_verdict(v: &[u32; 40]) -> Result<(), Question>
 }
 
 // 8 of a mesh.
+#[tactic(auto, unfolding(crate::specs::Verdict::mesh_verdict))]
 fn mesh_verdict(v: &[u32; 40]) -> Result<(), Question>
     ensures { result ≡ mesh_verdict (mesh_at v.now) }
 {
-    ask(
-        Question::Consistency,
-        mesh_consistent(mesh_of(v)),
-        Ok(()),
-    )
+    ask(Question::Consistency, mesh_consistent(mesh_of(v)), Ok(()))
 }
 
 // The questions of a whole member whose fields passed question 7.
+#[tactic(auto, using(field_layout::proofs::Held::beam_fields_held), unfolding(crate::specs::Verdict::member_verdict, field_layout::specs::Layout::member_at, field_table::specs::Fields::fields_of))]
 pub fn member_verdict(kind: MemberKind, v: &[u32; 40]) -> Result<(), Question>
     requires { fields_hold (fields_of kind) 0 v.now ≡ true }
     ensures { result ≡ member_verdict kind v.now }
@@ -86,6 +86,7 @@ pub fn member_verdict(kind: MemberKind, v: &[u32; 40]) -> Result<(), Question>
 }
 
 // 5: a mark in range.
+#[tactic(auto, unfolding(crate::specs::Verdict::mark_in_range))]
 pub fn mark_in_range(mark: u32) -> bool
     ensures { result ≡ mark_in_range mark }
 {
@@ -93,6 +94,7 @@ pub fn mark_in_range(mark: u32) -> bool
 }
 
 // 7, and the questions of a whole member of this kind.
+#[tactic(auto, unfolding(crate::specs::Verdict::fields_verdict))]
 fn fields_verdict(kind: MemberKind, v: &[u32; 40]) -> Result<(), Question>
     ensures { result ≡ fields_verdict kind v.now }
 {
@@ -104,16 +106,15 @@ fn fields_verdict(kind: MemberKind, v: &[u32; 40]) -> Result<(), Question>
 }
 
 // The questions put to a single built member with this mark, the kind of this number and these slots.
+#[tactic(auto, unfolding(crate::specs::Verdict::built_verdict))]
 pub fn built_verdict(mark: u32, number: u32, v: &[u32; 40]) -> Result<(), Question>
     ensures { result ≡ built_verdict mark number v.now }
 {
-    if mark_in_range(mark) {
-        if is_known(number) {
-            fields_verdict(kind_of(number), v)
-        } else {
-            Err(Question::Kind)
-        }
-    } else {
-        Err(Question::Mark)
+    if !mark_in_range(mark) {
+        return Err(Question::Mark);
     }
+    if !is_known(number) {
+        return Err(Question::Kind);
+    }
+    fields_verdict(kind_of(number), v)
 }
