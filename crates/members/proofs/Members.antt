@@ -13,10 +13,9 @@ use Rattle.member.specs.Member.{Member}
 use Rattle.field_table.specs.declared.MemberKind.{MemberKind}
 use Rattle.field_table.specs.Fields.{kind_of, fields_of}
 use Rattle.verdict.specs.declared.Built.{Built}
-use Rattle.question.specs.Reading.{Verdict}
 use Rattle.verdict.specs.Built.{member_of}
 use Rattle.verdict.specs.Verdict.{member_verdict}
-use Rattle.question.specs.Reading.{Reading, got, no, and_then, passed, refusal, named}
+use Rattle.question.specs.Reading.{Reading, got, no, and_then, refusal, named}
 use Rattle.field_validator.specs.Placed.{Placed, placed, of_number}
 use Rattle.field_check.specs.declared.Slots.{Slots}
 use Rattle.field_validator.specs.FieldsAt.{empty, fields}

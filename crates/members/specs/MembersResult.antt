@@ -5,7 +5,7 @@ use Rattle.question.specs.declared.Refusal.{Refusal}
 use Rattle.member.specs.Member.{Member}
 use Rattle.verdict.specs.declared.Built.{Built}
 use Rattle.members.specs.declared.Head.{Head}
-use Rattle.question.specs.Reading.{Reading, got, no, passed}
+use Rattle.question.specs.Reading.{Reading, got, no}
 use Rattle.field_validator.specs.Placed.{Placed, placed}
 
 -- the mark of a member that was read

@@ -28,7 +28,12 @@ pub struct Head {
 // The member with this mark and the kind of this number, whose fields are validated one by one from `at` on: its mark, and the place
 // after it.
 #[tactic(auto, using(field_validator::proofs::Held::fields_held, crate::proofs::Members::fields_read, crate::proofs::Members::body_accepted))]
-fn validate_one_by_one(src: &[u8], at: usize, mark: u32, number: u32) -> Result<(u32, usize), Question>
+fn validate_one_by_one(
+    src: &[u8],
+    at: usize,
+    mark: u32,
+    number: u32,
+) -> Result<(u32, usize), Question>
     ensures { of_number result ≡ marked (member_body mark number src.now at) }
 {
     let kind = kind_of(number);
