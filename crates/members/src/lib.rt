@@ -2,7 +2,7 @@
 // with its member. The reader takes an accepted one again.
 #![tactic(auto)]
 
-ghost use Rattle.std.specs.Prelude.{◌≡◌, ◌≤◌};
+ghost use Rattle.std.specs.Prelude.{◌≡◌};
 ghost use Rattle.question.specs.Reading.{got, Got};
 ghost use Rattle.field_validator.specs.Placed.{placed, of_number};
 ghost use Rattle.field_validator.specs.FieldsAt.{empty};
@@ -117,7 +117,6 @@ pub fn read_member(src: &[u8], at: usize, v: &mut [u32; 40]) -> Head
 // `count` members from `at` on: where they end, or the refusal.
 #[tactic(auto, using(crate::proofs::Members::no_member, crate::proofs::Members::member_refused))]
 pub fn validate_members(src: &[u8], at: usize, count: u32) -> Result<usize, Refusal>
-    requires { count ≤ 500 }
     ensures { members_end_of result ≡ members_end (members count src.now at 0 1) }
 {
     let mut p = at;
