@@ -3,12 +3,11 @@
 
 ghost use Rattle.std.specs.Prelude.{◌≡◌, true, if◌then◌else◌};
 ghost use Rattle.member.specs.Member.{beam_of};
-ghost use Rattle.member.specs.Accepted.{AcceptedBeam};
 ghost use Rattle.bending.specs.Steps.{compression_depth};
 ghost use Rattle.beam.specs.Checks.{from_least_links, from_spacing, from_shear, from_bending, from_depth, section_outcome, beam_outcome};
 
 use bending::{bending_capacity, compression_depth, compression_yields, least_steel};
-use member::{Beam, ValidBeam};
+use member::ValidBeam;
 use outcome::{Check, Outcome, no_figure, one_figure, two_figures};
 use section::{ReinforcedSection, ValidSection, valid_section};
 use serviceability::from_stress;
@@ -101,9 +100,8 @@ fn check_section(x: ValidSection) -> Outcome
 
 // The checks of an accepted beam.
 #[tactic(auto, unfolding(crate::specs::Checks::beam_outcome))]
-pub fn check_beam(x: Beam) -> Outcome
-    requires { AcceptedBeam (beam_of x) }
-    ensures { result ≡ beam_outcome (beam_of x) }
+pub fn check_beam(x: ValidBeam) -> Outcome
+    ensures { result ≡ beam_outcome (beam_of x.beam) }
 {
-    check_section(valid_section(ValidBeam { beam: x }))
+    check_section(valid_section(x))
 }

@@ -10,7 +10,7 @@ use beam::check_beam;
 use column::check_column;
 use field_layout::{beam_of, column_of, mesh_of};
 use field_table::MemberKind;
-use member::{ValidColumn, ValidMesh};
+use member::{ValidBeam, ValidColumn, ValidMesh};
 use mesh::check_mesh;
 use outcome::Outcome;
 
@@ -20,7 +20,9 @@ pub fn check_member(mark: u32, kind: MemberKind, v: &[u32; 40]) -> Outcome
     ensures { result ≡ outcome_of (member_at mark kind v.now) }
 {
     match kind {
-        MemberKind::Beam(pointLoad) => check_beam(beam_of(pointLoad, v)),
+        MemberKind::Beam(pointLoad) => check_beam(ValidBeam {
+            beam: beam_of(pointLoad, v),
+        }),
         MemberKind::Column => check_column(ValidColumn {
             column: column_of(v),
         }),

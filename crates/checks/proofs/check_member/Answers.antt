@@ -2,9 +2,8 @@
 use Rattle.checks.proofs.Safe.{as_beam, as_column, as_mesh, beam_outcome_lem, column_outcome_lem, mesh_outcome_lem}
 use Rattle.checks.proofs.check_member.Goals as goal
 
-pub check_beam-requires : goal.check_beam-requires
-check_beam-requires c =
-    rw c.beam_of.ensures (as_beam _ _ _ c.in-Beam.is c.requires)
+pub invariant_of-check_beam : goal.invariant_of-check_beam
+invariant_of-check_beam c = record { accepted = rw c.beam_of.ensures (as_beam _ _ _ c.in-Beam.is c.requires) }
 
 pub invariant_of-check_column : goal.invariant_of-check_column
 invariant_of-check_column c = record { accepted = rw c.column_of.ensures (as_column _ _ (cc) c.requires) }
