@@ -2,7 +2,7 @@
 #![tactic(auto)]
 
 ghost use Rattle.std.specs.Prelude.{◌≡◌, true, ◌*◌, ◌≤◌};
-ghost use Rattle.section.specs.Section.{b, c, G, W, S};
+ghost use Rattle.section.specs.Section.{G, W, S};
 ghost use Rattle.cracking.specs.Bounds.{stress_most, spacing_most};
 ghost use Rattle.cracking.specs.Steps.{stress_holds, steel_stress, stiffening, mean_stress, crack_spacing, width_of, σ, q, crack_width, width_limit};
 

@@ -2,7 +2,6 @@
 #![tactic(auto)]
 
 ghost use Rattle.std.specs.Prelude.{◌≡◌, true, ◌≤◌};
-ghost use Rattle.std.proofs.Props.{props};
 ghost use Rattle.cracking.specs.Bounds.{stress_most};
 ghost use Rattle.cracking.specs.Steps.{stress_holds, σ, q};
 
