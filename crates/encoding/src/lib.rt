@@ -10,7 +10,6 @@ ghost use Rattle.field_layout.specs.Layout.{slot, part, beam_at, column_at, memb
 ghost use Rattle.encoding.specs.ScheduleBytes.{bytes_of_all, beam_numbers, column_numbers, member_numbers};
 ghost use Rattle.encoding.specs.FieldNumbers.{field_numbers};
 
-use field_layout::index;
 use field_table::{
     BEAM_LINKS, COLUMN_COUNT, COLUMN_FIELDS, COLUMN_LINKS, COMPRESSION_COUNT, MESH_FIELDS,
     MemberKind, TENSION_COUNT, beam_field_count, kind_of,
@@ -44,7 +43,7 @@ fn list_end(v: &[u32; 40], k: usize) -> usize
     requires { (k ≤ 31) × (slot v.now k ≤ 4) }
     ensures { result ≡ k + (1 + 2 * slot v.now k) }
 {
-    k + 1 + 2 * index(v[k])
+    k + 1 + 2 * v[k] as usize
 }
 
 // The fields of a beam: each list's groups follow its count, and none past it is put.

@@ -14,12 +14,6 @@ use field_table::{
 use member::{Beam, Column, Load, Mesh};
 use quantity::{Force, Length};
 
-pub fn index(x: u32) -> usize
-    ensures { result ≡ x }
-{
-    x as usize
-}
-
 fn length_at(v: &[u32; 40], i: usize) -> Length
     requires { i < 40 }
     ensures { result.0 ≡ get_or v.now i 0 }
