@@ -98,7 +98,7 @@ fn width_of(mean: u64, spacing: u64) -> u64
     div_up(19 * mean * spacing, 2000000000)
 }
 
-// 4.4.2: the crack width, 0.001 mm.
+// 4.4.2: the crack width, 0.001 mm. Asks for the least steel in a clause, since the deflection takes a loaded section without it.
 #[tactic(auto, unfolding(crate::specs::Steps::crack_width))]
 pub fn crack_width(x: LoadedSection) -> u64
     requires { G x.valid.section ≤ 50 * S x.valid.section }
