@@ -2,7 +2,7 @@
 #![tactic(auto)]
 
 ghost use Rattle.std.specs.Prelude.{◌≡◌, ◌*◌, ◌≤◌};
-ghost use Rattle.section.specs.Section.{b, h₀, S};
+ghost use Rattle.section.specs.Section.{b, h₀, S, Ec};
 ghost use Rattle.cracking.specs.Bounds.{stress_most};
 ghost use Rattle.deflection.specs.Bounds.{flexibility_most, curvature_most, deflection_most};
 ghost use Rattle.deflection.specs.Steps.{flexibility, curvature, short_term, long_term, deflection, by_span, span_divisor, deflection_holds};
@@ -46,7 +46,7 @@ fn long_term_of(s: u64, sc: u64, flanged: bool) -> u64
 
 // The curvature's factor of the section.
 fn section_curvature(x: LoadedSection) -> u64
-    ensures { let y = x.valid.section in result ≡ curvature x.mean (flexibility (S y) (Rattle.section.specs.Section.Ec y) (b y) (h₀ y)) x.stress }
+    ensures { let y = x.valid.section in result ≡ curvature x.mean (flexibility (S y) (Ec y) (b y) (h₀ y)) x.stress }
 {
     let section = x.valid.section;
     let z = flexibility_of(
