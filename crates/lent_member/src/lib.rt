@@ -1,7 +1,7 @@
 // A built member whose groups of bars are lent beside it as lists. Lent is document 01's word for borrowed: the caller keeps the list.
 #![tactic(auto)]
 
-ghost use Rattle.std.specs.Prelude.{◌≡◌, ◌+◌, ◌≤◌, set};
+ghost use Rattle.std.specs.Prelude.{◌≡◌, ◌+◌, ◌≤◌};
 ghost use Rattle.std.proofs.lemmas.List.Edits.{sets};
 ghost use Rattle.field_table.specs.Fields.{kind_of};
 ghost use Rattle.field_layout.specs.Layout.{part, group_numbers};
@@ -70,23 +70,15 @@ fn put_fields(v: &mut [u32; 40], at: usize, x: Fields, from: usize, count: usize
     v[at..at + count].copy_from_slice(&x.v[from..from + count]);
 }
 
-fn put_group(v: &mut [u32; 40], at: usize, g: Group)
-    requires { at + 2 ≤ 40 }
-    ensures { v.new ≡ set (set v.old at g.diameter) (at + 1) g.bars }
-{
-    v[at] = g.diameter;
-    v[at + 1] = g.bars;
-}
-
 // The slots from `at` on hold the four groups.
 fn put_groups(v: &mut [u32; 40], at: usize, groups: [Group; 4])
     requires { at + 8 ≤ 40 }
     ensures { v.new ≡ sets v.old at (group_numbers (first_four groups)) }
 {
-    put_group(v, at, groups[0]);
-    put_group(v, at + 2, groups[1]);
-    put_group(v, at + 4, groups[2]);
-    put_group(v, at + 6, groups[3]);
+    for i in 0..4 {
+        v[at + 2 * i] = groups[i].diameter;
+        v[at + 2 * i + 1] = groups[i].bars;
+    }
 }
 
 // The slots of a beam. a is put for both kinds, and only kind 4 reads it.
