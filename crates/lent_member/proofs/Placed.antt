@@ -1,19 +1,13 @@
 -- Fields copied into slots.
-use Prim.Native.Nat.{ℕ, zero, suc, ◌+◌, ◌-◌, ◌<◌, ◌≤◌}
-use mathlib.Core.Path.{◌≡◌, refl, sym}
+use Prim.Native.Nat.{ℕ, ◌+◌, ◌-◌, ◌≤◌}
+use mathlib.Core.Path.{◌≡◌, sym}
 use mathlib.Core.List.{List, append_assoc}
 use native.Mathlib.Omega.{arith}
 use lib.ListN.{length, take, drop, length-take, length-drop}
-use lib.Seq.{drop-cons}
 use borrow.Rule.Slice.PartMut.{put_mid, Post-is}
 use Rattle.std.proofs.lemmas.List.Edits.{sets, sets-eq}
 use Rattle.field_layout.specs.Layout.{part}
-
-part_slice : (v : List ℕ) (i n : ℕ) → i + n ≤ length v → part v i n ≡ take n (drop i v)
-part_slice v i zero h = refl
-part_slice v i (suc n) h =
-    let l : i < length v = omega arith in
-    rw (drop-cons v i 0 l, part_slice v (suc i) n (omega arith))
+use Rattle.field_layout.proofs.Part.{part_slice}
 
 pub fields_placed : (v s ys : List ℕ) (at from n : ℕ) → at + n ≤ length v → from + n ≤ length s → ys ≡ take (from + n - from) (drop from s)
     → put_mid at (at + n - at) v ys ≡ sets v at (part s from n)
