@@ -1,4 +1,6 @@
 // The validator of a member's fields: one by one, each held to its domain, or all at once.
+// The functions that take numbers are inlined, so that the reader, which knows that nothing is refused, has code without what only a
+// refusal needs.
 #![tactic(auto)]
 
 ghost use Rattle.std.specs.Prelude.{◌≡◌, ◌+◌, ◌-◌, ◌≤◌};
@@ -49,6 +51,7 @@ pub fn validate_fields(src: &[u8], at: usize, kind: MemberKind) -> Result<(Slots
 
 // The numbers from `at` on into the slots from `from` up to `end`: the place after them.
 #[tactic(auto, using(crate::proofs::Taken::row_ended, crate::proofs::Taken::row_refused, crate::proofs::Taken::row_stored))]
+#[inline(always)]
 fn take_row(
     src: &[u8],
     at: usize,
@@ -68,6 +71,7 @@ fn take_row(
 
 // The groups of a list whose count stands in slot k.
 #[tactic(auto, using(crate::proofs::Taken::list_taken))]
+#[inline(always)]
 fn take_list(src: &[u8], at: usize, v: &mut [u32; 40], k: usize) -> Result<usize, Question>
     requires { k ≤ 31 }
     ensures { fields_end_of result v.new ≡ taken (groups k) src.now at (k + 1) v.old }
@@ -78,6 +82,7 @@ fn take_list(src: &[u8], at: usize, v: &mut [u32; 40], k: usize) -> Result<usize
 }
 
 // The fields of a beam.
+#[inline(always)]
 fn take_beam(src: &[u8], at: usize, pointLoad: bool, v: &mut [u32; 40]) -> Result<usize, Question>
     ensures { fields_end_of result v.new ≡ taken (beam_fields_of pointLoad) src.now at 0 v.old }
 {
@@ -90,6 +95,7 @@ fn take_beam(src: &[u8], at: usize, pointLoad: bool, v: &mut [u32; 40]) -> Resul
 
 // The fields of a column.
 #[tactic(auto, using(crate::proofs::Taken::column_rows))]
+#[inline(always)]
 fn take_column(src: &[u8], at: usize, v: &mut [u32; 40]) -> Result<usize, Question>
     ensures { fields_end_of result v.new ≡ taken column_fields src.now at 0 v.old }
 {
@@ -100,6 +106,7 @@ fn take_column(src: &[u8], at: usize, v: &mut [u32; 40]) -> Result<usize, Questi
 
 // The fields of a kind from `at` on, into v: the place after them, or the refusal of a number.
 #[tactic(auto, using(crate::proofs::Taken::mesh_rows), unfolding(field_table::specs::Fields::fields_of))]
+#[inline(always)]
 pub fn take_fields(
     src: &[u8],
     at: usize,
