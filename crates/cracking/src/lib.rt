@@ -98,22 +98,21 @@ fn width_of(mean: u64, spacing: u64) -> u64
     div_up(19 * mean * spacing, 2000000000)
 }
 
-// 4.4.2: the crack width, 0.001 mm. Asks for the least steel in a clause, since the deflection takes a loaded section without it.
+// 4.4.2: the crack width, 0.001 mm, from q. It takes q and no loaded section, whose bound on σ it does not ask for.
 #[tactic(auto, unfolding(crate::specs::Steps::crack_width))]
-pub fn crack_width(x: LoadedSection) -> u64
-    requires { G x.valid.section ≤ 50 * S x.valid.section }
-    ensures { result ≡ crack_width x.valid.section }
+pub fn crack_width(x: ValidSection, mean: u64) -> u64
+    requires { (G x.section ≤ 50 * S x.section) × (mean ≡ q x.section) × (mean ≤ stress_most) }
+    ensures { result ≡ crack_width x.section }
 {
-    let section = x.valid.section;
-    let cover = section.c.in_millimetres() as u32;
+    let cover = x.section.c.in_millimetres() as u32;
     let spacing = crack_spacing_of(
         cover,
-        section.squares,
-        twice_tension_area(x.valid),
-        section.diameters,
-        section.tension,
+        x.section.squares,
+        twice_tension_area(x),
+        x.section.diameters,
+        x.section.tension,
     );
-    width_of(x.mean, spacing)
+    width_of(mean, spacing)
 }
 
 // Its limit in this environment.

@@ -43,7 +43,7 @@ fn from_width(x: ReinforcedSection, moment: u64, shear: u64) -> Outcome
     ensures { result ≡ from_width x.valid.section moment shear }
 {
     let loaded = loaded_section(x.valid);
-    let width = crack_width(loaded);
+    let width = crack_width(x.valid, loaded.mean);
     if width <= width_limit(x.valid.section.environment) {
         from_deflection(loaded, moment, shear, width)
     } else {

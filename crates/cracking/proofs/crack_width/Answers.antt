@@ -7,6 +7,6 @@ use Rattle.cracking.proofs.crack_width.Goals as goal
 
 pub width_of-requires : goal.width_of-requires
 width_of-requires c =
-    let x = c.args.x.valid.section in
-    let a = c.args.x.valid.bounded in
-    (c.args.x.mean_bound, rw (c.crack_spacing_of-spacing.ensures, c.twice_tension_area.ensures, c.in_millimetres-cover.ensures) (spacing_most_lem (section.c x) (E x) (W x) (D x) (S x) a.D_least a.S_least (omega (arith, c.requires)) a.E_most))
+    let x = c.args.x.section in
+    let a = c.args.x.bounded in
+    (c.requires.2, rw (c.crack_spacing_of-spacing.ensures, c.twice_tension_area.ensures, c.in_millimetres-cover.ensures) (spacing_most_lem (section.c x) (E x) (W x) (D x) (S x) a.D_least a.S_least (omega (arith, c.requires.0)) a.E_most))
