@@ -172,7 +172,7 @@ module _ (xs : List Built) (ms : List Member) (few : length xs ≤ 500) (e : rec
       let a = bytes_of (length xs) in
       let b = members_bytes ms in
       let nil : a ++ (b ++ []) ≡ a ++ b = ap (λ (t : List ℕ). a ++ t) (append-nil b) in
-      let c : number_at (a ++ b) 0 ≡ Ok (length xs, length a) = bytes_read (length xs) (omega arith) [] b ∙ ap (Value (length xs)) (zero-add (length a)) in
+      let c : number_at (a ++ b) 0 ≡ Ok (length xs, length a) = bytes_read (length xs) (omega arith) [] b ∙ ap (λ (p : ℕ). Ok (length xs, p)) (zero-add (length a)) in
       let m : members (length xs) (a ++ b) (length a) 0 1 ≡ got (placed ms (length a + length b)) = rw (← nil) (members_back xs 0 1 ms e a []) in
       let l : length (a ++ b) ≡ length a + length b = length-append a b in
       rw (same_length, le-leb (length (a ++ b)) 60000 (rw same_length at file_short), c, le-leb (length xs) 500 few, m, le-leb (length (a ++ b)) (length a + length b) (omega arith))
