@@ -2,7 +2,7 @@
 use Rattle.std.specs.Prelude.{Err, Ok}
 use Prim.Native.Nat.{ℕ}
 use mathlib.Core.Path.{◌≡◌, refl, ap}
-use mathlib.Core.Bool.{Bool, true, false}
+use mathlib.Core.Bool.{Bool, true}
 use mathlib.Core.List.{List}
 use native.Mathlib.Omega.{arith}
 use Rattle.quantity.proofs.Choice.{if_case}
@@ -23,14 +23,8 @@ on_checked P q test s p passes refused = cases (number_at s p) refl
     cases (Err r) e = refused r
 
 module _ (q : Question) (test : ℕ → Bool) (s : List ℕ) (p : ℕ) where
-  pub number_refused : (r : Question) → number_at s p ≡ Err r → checked q test s p ≡ no r
-  number_refused r e = rw e
-
   pub number_passes : (x next : ℕ) → number_at s p ≡ Ok (x, next) → test x ≡ true → checked q test s p ≡ got (placed x next)
   number_passes x next e t = rw (e, t)
-
-  pub number_fails : (x next : ℕ) → number_at s p ≡ Ok (x, next) → test x ≡ false → checked q test s p ≡ no q
-  number_fails x next e t = rw (e, t)
 
 -- a number that was taken passed its question
 pub passes : (q : Question) (test : ℕ → Bool) (s : List ℕ) (p x next : ℕ) → checked q test s p ≡ got (placed x next) → test x ≡ true
