@@ -1,6 +1,6 @@
 -- Question 7 of fields one after the other.
 use Prim.Native.Nat.{ℕ, zero, suc, ◌+◌, ◌<◌, zero-le}
-use mathlib.Core.Path.{◌≡◌, refl, sym}
+use mathlib.Core.Path.{◌≡◌, refl, sym, ◌∙◌}
 use mathlib.Core.Bool.{Bool, true, false, ◌&&◌}
 use mathlib.Core.List.{List, [], ◌∷◌, ◌++◌}
 use native.Mathlib.Nat.{add-zero, zero-add}
@@ -8,7 +8,7 @@ use Rattle.std.proofs.lemmas.List.FromFn.{length-range_with_len, get_or-range_wi
 use native.Mathlib.Omega.{arith}
 use Rattle.std.specs.Bool.{MatchBool}
 use Rattle.std.specs.List.{range_with_len, AllWithin, HoldsAt}
-use Rattle.quantity.proofs.Choice.{and_false, and_assoc}
+use Rattle.quantity.proofs.Choice.{and_true, and_false, and_assoc}
 use lib.ListN.{length, get_or}
 use Rattle.field_domain.specs.declared.Domain.{Domain}
 use Rattle.field_domain.specs.declared.Domain.TheVariants.{Grade}
@@ -53,3 +53,21 @@ walked ds v n true e h =
 walked ds v n false e h =
     let m : h.0 < n = rw (length-range_with_len 0 n) at h.1 in
     sym (one_fails ds 0 v h.0 (rw e at m) (rw (get_or-range_with_len 0 n h.0 0 m, zero-add h.0) at (h.2 0)))
+
+-- ---- Fields joined from the last to the first; no proof cites these two.
+
+-- field before field: the last one stands alone, the definition ends in true after it
+abbrev pub joined : List Domain → ℕ → List ℕ → Bool
+joined [] i v = true
+joined (d ∷ []) i v = field_holds d i v
+joined (d ∷ e ∷ ds) i v = field_holds d i v && joined (e ∷ ds) (i + 1) v
+
+pub joined_hold : (fs : List Domain) (i : ℕ) (v : List ℕ) → joined fs i v ≡ fields_hold fs i v
+joined_hold [] i v = refl
+joined_hold (d ∷ []) i v = sym (and_true (field_holds d i v))
+joined_hold (d ∷ e ∷ ds) i v = rw (joined_hold (e ∷ ds) (i + 1) v)
+
+-- a part, and what those after it come to
+pub part_then : (xs ys : List Domain) (i : ℕ) (v : List ℕ) {s t r : Bool} → s ≡ fields_hold xs i v → t ≡ fields_hold ys (i + length xs) v → r ≡ (s && t)
+    → r ≡ fields_hold (xs ++ ys) i v
+part_then xs ys i v e f g = g ∙ rw (e, f) (sym (holds_append xs ys i v))
