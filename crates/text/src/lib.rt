@@ -1,4 +1,4 @@
-// Text put into a lent buffer. A byte past the buffer's end is counted and not stored, so a first pass over a buffer of one byte
+// Text put into a lent buffer. A byte past the buffer's end is counted and not stored, so a first pass over an empty buffer
 // learns a text's length.
 #![tactic(auto)]
 

@@ -1,6 +1,7 @@
 -- `decimal::put_tight` meets its contract: eight digits copied from an array, behind those before them.
 use borrow.Author.Rules.{rules}
 use native.Mathlib.Omega.{arith}
+use Prim.Native.Nat.{ℕ}
 use mathlib.Core.Path.{refl}
 use lib.ListN.{length-take}
 use Rattle.text.proofs.Put.{wrote_then}
@@ -16,7 +17,7 @@ slice_bounds-digits-end t c =
 pub slice_bounds-put-end : goal.slice_bounds-put-end
 slice_bounds-put-end t c =
     let h = decimal_short 8 c.args.v (omega arith) (omega arith) in
-    simp length-take (omega arith)
+    omega (arith, length-take {A = ℕ})
 
 pub returns-then-v-lt100000000 : goal.returns-then-v-lt100000000
 returns-then-v-lt100000000 t c =
