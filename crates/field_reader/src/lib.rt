@@ -2,31 +2,31 @@
 // `unwrap` tests nothing, and the compiler leaves out what only a refusal needs.
 #![tactic(auto)]
 
-ghost use Rattle.std.specs.Prelude.{◌≡◌};
 ghost use Rattle.varint.specs.Varint.{number_at};
+ghost use Rattle.varint.specs.Placed.{of_number};
+ghost use Rattle.varint.specs.Moved.{Moved};
 ghost use Rattle.field_table.specs.Fields.{fields_of};
-ghost use Rattle.question.specs.Reading.{Got, got};
-ghost use Rattle.field_validator.specs.Placed.{placed, of_number};
+ghost use Rattle.question.specs.Reading.{Got};
 ghost use Rattle.field_validator.specs.Taken.{taken};
 
 use field_table::MemberKind;
 use field_validator::take_fields;
-use varint::number_at;
+use varint::Cursor;
 
-// The number whose first septet stands at `at`, and the place after its last.
+// The next number.
 #[tactic(auto, unfolding(question::specs::Reading::Got))]
-pub fn read_number(src: &[u8], at: usize) -> (u32, usize)
-    requires { Got (of_number (number_at src.now at)) }
-    ensures { number_at src.now at ≡ Ok result }
+pub fn read_number(input: &mut Cursor) -> u32
+    requires { Got (of_number (number_at input.old.src.now input.old.at)) }
+    ensures { Moved input.old (of_number (number_at input.old.src.now input.old.at)) (Ok result) input.new }
 {
-    number_at(src, at).unwrap()
+    input.number().unwrap()
 }
 
-// The fields of a kind from `at` on, into v: the place after them.
+// The fields of a kind, into v.
 #[tactic(auto, using(field_validator::proofs::Taken::end_got), unfolding(question::specs::Reading::Got))]
-pub fn read_fields(src: &[u8], at: usize, kind: MemberKind, v: &mut [u32; 40]) -> usize
-    requires { Got (taken (fields_of kind) src.now at 0 v.old) }
-    ensures { taken (fields_of kind) src.now at 0 v.old ≡ got (placed v.new result) }
+pub fn read_fields(input: &mut Cursor, kind: MemberKind, v: &mut [u32; 40])
+    requires { Got (taken (fields_of kind) input.old.src.now input.old.at 0 v.old) }
+    ensures { Moved input.old (taken (fields_of kind) input.old.src.now input.old.at 0 v.old) (Ok v.new) input.new }
 {
-    take_fields(src, at, kind, v).unwrap()
+    take_fields(input, kind, v).unwrap();
 }

@@ -10,7 +10,7 @@ use Rattle.question.specs.declared.Question.{Question}
 use Rattle.varint.specs.Varint.{Number}
 use Rattle.varint.specs.Varint.{number_at}
 use Rattle.question.specs.Reading.{Reading, got, no, and_then, ask}
-use Rattle.field_validator.specs.Placed.{Placed, placed, of_number}
+use Rattle.varint.specs.Placed.{Placed, placed, of_number}
 use Rattle.field_validator.specs.FieldsAt.{checked}
 
 -- a number passes its question, or is refused

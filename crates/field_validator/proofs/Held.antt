@@ -20,7 +20,7 @@ use Rattle.field_table.specs.Fields.{fields_of}
 use Rattle.field_check.specs.FieldCheck.{fields_hold}
 use Rattle.field_table.proofs.Tables.{fields_fit}
 use Rattle.question.specs.Reading.{Reading, got, no, and_then}
-use Rattle.field_validator.specs.Placed.{Placed, placed}
+use Rattle.varint.specs.Placed.{Placed, placed}
 use Rattle.field_validator.specs.FieldsAt.{empty, field, fields}
 use Rattle.field_validator.proofs.Checked.{on_checked}
 

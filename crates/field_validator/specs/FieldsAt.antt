@@ -6,7 +6,7 @@ use Rattle.varint.specs.Varint.{number_at}
 use Rattle.field_domain.specs.declared.Domain.{Domain}
 use Rattle.field_domain.specs.Domain.{holds, is_present}
 use Rattle.question.specs.Reading.{Reading, got, and_then, ask}
-use Rattle.field_validator.specs.Placed.{Placed, placed, of_number}
+use Rattle.varint.specs.Placed.{Placed, placed, of_number}
 
 -- the number at p: 2 and 3, then question q
 abbrev pub checked : Question → (ℕ → Bool) → List ℕ → ℕ → Reading Question (Placed ℕ)

@@ -6,7 +6,7 @@ use Rattle.varint.specs.Varint.{number_at}
 use Rattle.field_domain.specs.declared.Domain.{Domain}
 use Rattle.field_domain.specs.Domain.{is_present}
 use Rattle.question.specs.Reading.{Reading, got, no, and_then}
-use Rattle.field_validator.specs.Placed.{Placed, placed}
+use Rattle.varint.specs.Placed.{Placed, placed}
 
 -- a number refused, and the slots as they are then
 pub record Stopped : Type 0 where
@@ -36,11 +36,11 @@ taken [] s p i v = got (placed v p)
 taken (d ∷ ds) s p i v =
     and_then (if is_present d v then stored s p i v else got (placed v p)) (λ r. taken ds s r.next (i + 1) r.value)
 
--- where numbers taken into slots end, or the refusal of one
+-- what taking numbers into slots yields: that they are all taken, or the refusal of one
 abbrev pub FieldsEnd : Type 0
-FieldsEnd = Result ℕ Question
+FieldsEnd = Result (Unit {0}) Question
 
--- what the code's answer and its slots v afterwards say
-abbrev pub fields_end_of : FieldsEnd → List ℕ → Reading Stopped (Placed (List ℕ))
-fields_end_of (Ok next) v = got (placed v next)
-fields_end_of (Err q) v = no (stopped q v)
+-- what it says, with the slots v afterwards
+abbrev pub fields_end_of : FieldsEnd → List ℕ → Result (List ℕ) Stopped
+fields_end_of (Ok tt) v = Ok v
+fields_end_of (Err q) v = Err (stopped q v)

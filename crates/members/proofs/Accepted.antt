@@ -1,6 +1,6 @@
 -- What accepted members say: how they were read, and that each is accepted.
 use Rattle.std.specs.Prelude.{Err, Ok}
-use Prim.Native.Nat.{ℕ, zero, suc, ◌+◌, ◌<◌}
+use Prim.Native.Nat.{ℕ, zero, suc, ◌+◌, ◌-◌, ◌<◌}
 use mathlib.Core.Path.{◌≡◌, refl, sym, ap, ◌∙◌}
 use mathlib.Core.Bool.{Bool, true}
 use mathlib.Core.List.{List, []}
@@ -22,8 +22,9 @@ use Rattle.verdict.specs.Built.{member_of}
 use Rattle.verdict.specs.Verdict.{mark_in_range, member_verdict}
 use Rattle.verdict.proofs.Accepted.{accepted_member}
 use Rattle.question.specs.Reading.{Reading, got, no, and_then, passed, Got}
-use Rattle.field_validator.specs.Placed.{Placed, placed, of_number}
+use Rattle.varint.specs.Placed.{Placed, placed, of_number}
 use Rattle.field_validator.specs.FieldsAt.{empty, checked, fields}
+use Rattle.members.specs.Accepted.{AcceptedThen, AcceptedFrom}
 use Rattle.members.specs.Members.{member_body, mark_rises, mark_at, kind_at, member, members}
 use Rattle.field_validator.specs.Taken.{taken}
 use Rattle.field_validator.proofs.Checked.{on_checked, passes, number_passes}
@@ -217,3 +218,25 @@ members_accepted zero s p before i ms end e =
 members_accepted (suc n) s p before i ms end e =
     let f = first_read n s p before i ms end e in
     rw f.list ((member_was s p before f.first f.next f.reads).accepted, members_accepted n s f.next f.first.mark (i + 1) f.others end f.reads_others)
+
+-- members that were read are accepted whatever marks stand before them
+pub members_from : (n : ℕ) (s : List ℕ) (p before i : ℕ) (ms : List Member) (end : ℕ) → members n s p before i ≡ got (placed ms end) → AcceptedFrom n s p
+unfolding members AcceptedFrom
+members_from zero s p before i ms end e = tt
+members_from (suc n) s p before i ms end e =
+    let f = first_read n s p before i ms end e in
+    rw (any_before s p before _ f.reads) (members_from n s f.next f.first.mark (i + 1) f.others end f.reads_others)
+
+-- the first of them
+pub first_accepted : (n : ℕ) (s : List ℕ) (p : ℕ) → 0 < n → AcceptedFrom n s p → Got (member s p 0)
+unfolding AcceptedFrom Got
+first_accepted n s p h a = let one_less : n ≡ suc (n - 1) = omega arith in go (member s p 0) (rw one_less at a)
+  where
+    go : (o : Reading Question (Placed Built)) → AcceptedThen o (λ b. AcceptedFrom (n - 1) s b.next) → Got o
+    go (got b) a = tt
+    go (no q) a = a
+
+-- the others
+pub others_accepted : (n : ℕ) (s : List ℕ) (p : ℕ) → 0 < n → (b : Built) (next : ℕ) → member s p 0 ≡ got (placed b next) → AcceptedFrom n s p → AcceptedFrom (n - 1) s next
+unfolding AcceptedFrom
+others_accepted n s p h b next e a = let one_less : n ≡ suc (n - 1) = omega arith in rw (one_less, e) at a

@@ -1,12 +1,12 @@
 -- What the code's results say, in the terms of the definitions.
-use Rattle.std.specs.Prelude.{ℕ, List, Err, Ok, Result}
+use Rattle.std.specs.Prelude.{ℕ, List}
 use Rattle.question.specs.declared.Question.{Question}
 use Rattle.question.specs.declared.Refusal.{Refusal}
 use Rattle.member.specs.Member.{Member}
 use Rattle.verdict.specs.declared.Built.{Built}
 use Rattle.members.specs.declared.Head.{Head}
 use Rattle.question.specs.Reading.{Reading, got, no}
-use Rattle.field_validator.specs.Placed.{Placed, placed}
+use Rattle.varint.specs.Placed.{Placed, placed}
 
 -- the mark of a member that was read
 abbrev pub marked : Reading Question (Placed Built) → Reading Question (Placed ℕ)
@@ -17,15 +17,7 @@ marked (no q) = no q
 abbrev pub headed : Head → List ℕ → Built
 headed r v = record { mark = r.mark; kind = r.kind; fields = record { v = v } }
 
--- where a row of members ends, or the refusal
-abbrev pub MembersEnd : Type 0
-MembersEnd = Result ℕ Refusal
-
-abbrev pub members_end_of : MembersEnd → Reading Refusal ℕ
-members_end_of (Ok p) = got p
-members_end_of (Err r) = no r
-
 -- where a row of members ends
-abbrev pub members_end : Reading Refusal (Placed (List Member)) → Reading Refusal ℕ
-members_end (got ms) = got ms.next
+abbrev pub members_end : Reading Refusal (Placed (List Member)) → Reading Refusal (Placed (Unit {0}))
+members_end (got ms) = got (placed tt ms.next)
 members_end (no r) = no r

@@ -1,10 +1,10 @@
 -- Demand 3 of a text in the buffer, and how the validator's answer picks the case.
 use Rattle.std.specs.Prelude.{Err, Ok}
 use Prim.Native.Nat.{ℕ, suc}
-use mathlib.Core.Path.{◌≡◌, refl, ap, ◌∙◌}
+use mathlib.Core.Path.{◌≡◌, refl, sym, ◌∙◌}
 use mathlib.Core.List.{List, ◌++◌}
 use native.Mathlib.Omega.{arith}
-use lib.ListN.{length, get_or}
+use lib.ListN.{get_or}
 use Rattle.quantity.proofs.All.{all_at}
 use Rattle.text.specs.Text.{line_of}
 use Rattle.line.specs.Line.{line_words, head_words, line_text}
@@ -14,6 +14,7 @@ use Rattle.question.specs.declared.Refusal.{Refusal}
 use Rattle.question.proofs.Numbers.{numbered}
 use Rattle.outcome.specs.declared.Outcome.{Outcome}
 use Rattle.varint.specs.Varint.{number_at}
+use Rattle.varint.proofs.Septets.{same_value}
 use Rattle.member.specs.Member.{Member}
 use Rattle.member.specs.Accepted.{AcceptedMember, AcceptedMembers}
 use Rattle.field_table.specs.Fields.{kind_of}
@@ -25,17 +26,16 @@ use Rattle.question.specs.Reading.{Reading, got, refusal}
 use Rattle.question.specs.Reading as reading
 use Rattle.schedule.specs.Schedule.{schedule}
 use Rattle.schedule.specs.Schedule.{schedule_answer}
-use Rattle.members.proofs.Members.{members_length}
 use Rattle.schedule.proofs.Accepted.{schedule_read, schedule_accepted}
 use Rattle.checks.specs.MemberOutcome.{mark_of, outcome_of}
 use Rattle.checks.proofs.Safe.{line_safe}
 use Rattle.text_answer.specs.Printed.{TextAnswer}
-use Rattle.report_text.specs.ReportText.{report_text, member_text, AcceptedFrom, lines_from}
+use Rattle.report_text.specs.ReportText.{report_text, member_text, lines_from}
 use Rattle.text_answer.specs.Printed.{text_too_long, Printed}
-use Rattle.report.specs.Report.{report_of, member_report_of, after_number}
+use Rattle.report.specs.Report.{report_of, member_report_of}
 use Rattle.report.specs.ReportClaim.{SafeReport, Reported, MemberReported}
 use Rattle.text_answer.proofs.Printed.{text_written, refused_is}
-use Rattle.report_text.proofs.ReportText.{members_lines, report_lines, mark_of_lem}
+use Rattle.report_text.proofs.ReportText.{report_lines, mark_of_lem}
 
 -- ---- A schedule.
 
@@ -77,32 +77,20 @@ validated_no (reading.no q) r e = cc
 record Read (s : List ℕ) (count at : ℕ) : Type 0 where
   ms : List Member
   reads : schedule s ≡ got ms
-  accepted : AcceptedFrom count s at
   text : line_text (head_words count) ++ lines_from count s at ≡ report_text ms
 
-read_of : (s : List ℕ) (o : Reading Refusal (List Member)) (count at : ℕ) → schedule s ≡ o → Ok count ≡ schedule_answer o →
-    at ≡ after_number (number_at s 0) → Read s count at
-read_of s (got ms) count at e a p =
+read_of : (s : List ℕ) (o : Reading Refusal (List Member)) (count at : ℕ) → schedule s ≡ o → Ok count ≡ schedule_answer o → number_at s 0 ≡ Ok (count, at)
+    → Read s count at
+read_of s (got ms) count at e a n =
     let f = schedule_read s ms e in
-    let c : count ≡ length ms = cc in
-    let l = members_length f.count s f.start 0 1 ms f.end f.reads in
-    let k : count ≡ f.count = c ∙ l in
-    let q : at ≡ f.start = p ∙ ap after_number f.counted in
-    record {
-      ms = ms;
-      reads = e;
-      accepted = rw (k, q) (members_lines f.count s f.start 0 1 ms f.end f.reads).0;
-      text = rw (k, q) (report_lines f.count s f.start ms f.end f.reads);
-    }
-read_of s (reading.no r) count at e a p = absurd (let z : ◌≡◌ {A = ℕ} 0 1 = cc in omega arith)
+    let same = same_value _ _ _ _ (sym n ∙ f.counted) in
+    record { ms = ms; reads = e; text = rw (same.0, same.1) (report_lines f.count s f.start ms f.end f.reads) }
+read_of s (reading.no r) count at e a n = absurd (let z : ◌≡◌ {A = ℕ} 0 1 = cc in omega arith)
 
-pub validated_accepted : (s : List ℕ) (count at : ℕ) → Ok count ≡ schedule_answer (schedule s) → at ≡ after_number (number_at s 0) → AcceptedFrom count s at
-validated_accepted s count at e p = (read_of s (schedule s) count at refl e p).accepted
-
-pub validated_yes : (s d d' : List ℕ) (a : TextAnswer) (count at : ℕ) → Ok count ≡ schedule_answer (schedule s) →
-    at ≡ after_number (number_at s 0) → Printed (text_too_long 0) (line_text (head_words count) ++ lines_from count s at) d d' a → Reported s d d' a
-validated_yes s d d' a count at e p w =
-    let r = read_of s (schedule s) count at refl e p in
+pub validated_yes : (s d d' : List ℕ) (a : TextAnswer) (count at : ℕ) → Ok count ≡ schedule_answer (schedule s) → number_at s 0 ≡ Ok (count, at)
+    → Printed (text_too_long 0) (line_text (head_words count) ++ lines_from count s at) d d' a → Reported s d d' a
+validated_yes s d d' a count at e n w =
+    let r = read_of s (schedule s) count at refl e n in
     reported s d d' a r.ms r.reads (rw r.text at w)
 
 -- ---- A built member.

@@ -2,7 +2,6 @@
 -- (document 01, "One schedule, printed")
 use Rattle.std.specs.Prelude.{ℕ, List, Err, Ok}
 use Rattle.question.specs.declared.Refusal.{Refusal}
-use Rattle.varint.specs.Varint.{Number}
 use Rattle.member.specs.Member.{Member}
 use Rattle.verdict.specs.declared.Built.{Built}
 use Rattle.verdict.specs.Built.{member_of}
@@ -27,8 +26,3 @@ line_or_no (Err q) m = no (refusal q 1)
 
 unfoldable pub member_report_of : Built → Reading Refusal (List ℕ)
 member_report_of x = line_or_no (built_verdict x.mark x.kind x.fields.v) (member_of x)
-
--- the place after a number
-abbrev pub after_number : Number → ℕ
-after_number (Ok (x, next)) = next
-after_number (Err q) = 0

@@ -1,9 +1,6 @@
 // The report of a schedule, and the line of one built member, into a lent buffer.
 #![tactic(auto)]
 
-ghost use Rattle.std.specs.Prelude.{◌≡◌};
-ghost use Rattle.varint.specs.Varint.{number_at};
-ghost use Rattle.report.specs.Report.{after_number};
 ghost use Rattle.report.specs.ReportClaim.{Reported, MemberReported};
 
 use checks::check_member;
@@ -12,25 +9,13 @@ use question::Refusal;
 use report_text::print_report;
 use schedule::validate_schedule;
 use text_answer::print_line;
-use varint::number_at;
 use verdict::{Built, built_verdict};
-
-// Where the members start: after their count.
-fn members_start(src: &[u8]) -> usize
-    ensures { result ≡ after_number (number_at src.now 0) }
-{
-    match number_at(src, 0) {
-        Ok((_, next)) => next,
-        Err(_) => 0,
-    }
-}
 
 // The report of a schedule's bytes.
 pub fn report(src: &[u8], out: &mut [u8]) -> Result<usize, Refusal>
     ensures { Reported src.now out.old out.new result }
 {
-    let count = validate_schedule(src)?;
-    print_report(src, members_start(src), count, out)
+    print_report(validate_schedule(src)?, out)
 }
 
 // The line of a member that a caller built.

@@ -19,7 +19,7 @@ use Rattle.verdict.specs.Verdict.{built_verdict}
 use Rattle.verdict.proofs.Accepted.{accepted_built}
 use Rattle.outcome.specs.declared.Outcome.{Outcome}
 use Rattle.question.specs.Reading.{Reading, got, no}
-use Rattle.field_validator.specs.Placed.{Placed}
+use Rattle.varint.specs.Placed.{Placed}
 use Rattle.members.specs.Members.{member}
 use Rattle.members.proofs.Accepted.{member_was}
 use Rattle.checks.specs.MemberOutcome.{mark_of, outcome_of}

@@ -26,7 +26,7 @@ use Rattle.field_table.specs.declared.MemberKind.TheVariants as kinds
 use Rattle.field_table.specs.Fields.{fields_of}
 use Rattle.field_check.specs.FieldCheck.{fields_hold}
 use Rattle.field_layout.specs.Layout.{slot}
-use Rattle.field_validator.specs.Placed.{placed}
+use Rattle.varint.specs.Placed.{placed}
 use Rattle.field_validator.specs.FieldsAt.{field, fields}
 use Rattle.field_validator.proofs.Checked.{number_passes}
 use Rattle.encoding.specs.ScheduleBytes.{bytes_of_all}

@@ -22,7 +22,7 @@ use Rattle.field_layout.specs.Layout.{member_at}
 use Rattle.verdict.specs.declared.Built.{Built}
 use Rattle.verdict.specs.Built.{member_of}
 use Rattle.verdict.specs.Verdict.{mark_in_range, verdict_of, member_verdict}
-use Rattle.field_validator.specs.Placed.{placed}
+use Rattle.varint.specs.Placed.{placed}
 use Rattle.field_validator.specs.FieldsAt.{empty, fields}
 use Rattle.field_validator.proofs.Checked.{number_passes}
 use Rattle.field_validator.proofs.Taken.{got_is}

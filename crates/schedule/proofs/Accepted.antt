@@ -14,7 +14,7 @@ use Rattle.varint.specs.Varint.{number_at}
 use Rattle.member.specs.Member.{Member}
 use Rattle.member.specs.Accepted.{AcceptedMembers}
 use Rattle.question.specs.Reading.{Reading, got, ask, refusal, named, no}
-use Rattle.field_validator.specs.Placed.{placed}
+use Rattle.varint.specs.Placed.{placed}
 use Rattle.field_validator.specs.FieldsAt.{checked}
 use Rattle.field_validator.proofs.Checked.{passes}
 use Rattle.members.specs.Members.{members}

@@ -4,6 +4,8 @@
 
 ghost use Rattle.std.specs.Prelude.{◌≡◌, ◌+◌, ◌*◌, ◌^◌, ◌<◌, ◌≤◌, length};
 ghost use Rattle.varint.specs.Varint.{number_at, septets_at, last_septet};
+ghost use Rattle.varint.specs.Placed.{of_number};
+ghost use Rattle.varint.specs.Moved.{Moved};
 
 use question::Question;
 
@@ -47,7 +49,7 @@ fn long_number(src: &[u8], at: usize, low: u64) -> Result<(u32, usize), Question
 // The number whose first septet stands at `at`, and the place after its last; or the question that is answered no, 2 or 3.
 // Most numbers are one or two septets, so these are read without a loop. Inlined, so that the reader's code asks nothing.
 #[inline(always)]
-pub fn number_at(src: &[u8], at: usize) -> Result<(u32, usize), Question>
+fn number_at(src: &[u8], at: usize) -> Result<(u32, usize), Question>
     ensures { result ≡ number_at src.now at }
 {
     if src.len() <= at {
@@ -65,4 +67,23 @@ pub fn number_at(src: &[u8], at: usize) -> Result<(u32, usize), Question>
         return last_septet(second, 128, first - 128, at + 2);
     }
     long_number(src, at + 2, first - 128 + (second - 128) * 128)
+}
+
+// The bytes of a schedule, and the place of the next one.
+#[derive(Clone, Copy)]
+pub struct Cursor<'a> {
+    pub src: &'a [u8],
+    pub at: usize,
+}
+
+impl Cursor<'_> {
+    // The next number; or the question that is answered no, 2 or 3.
+    #[inline(always)]
+    pub fn number(&mut self) -> Result<u32, Question>
+        ensures { Moved self.old (of_number (number_at self.old.src.now self.old.at)) result self.new }
+    {
+        let (value, next) = number_at(self.src, self.at)?;
+        self.at = next;
+        Ok(value)
+    }
 }

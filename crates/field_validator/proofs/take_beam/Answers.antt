@@ -1,37 +1,45 @@
 -- `field_validator::take_beam` meets its contract: a row or a list that was refused, or was taken and then the next.
-use mathlib.Core.Path.{◌≡◌, sym, ◌∙◌}
+use mathlib.Core.Path.{◌≡◌}
 use borrow.Author.Rules.{rules}
 use Rattle.std.specs.Prelude.{Err}
-use Rattle.field_validator.proofs.Taken.{beam_rows, loads_row, then_refused, then_on}
+use Rattle.field_validator.proofs.Taken.{from_tension, from_count, from_compression, from_links, beam_rows, loads_row, then_refused, then_on}
 use Rattle.field_validator.proofs.take_beam.Goals as goal
 
-pub returns-in_err-tension : goal.returns-in_err-tension
-returns-in_err-tension c =
-    let e : c.from_residual.result ≡ Err (c.in_err-tension.field-0.0) = search rules in
-    rw e (sym (beam_rows _ c.args.pointLoad _ _ ∙ then_refused _ _ _ c.take_row.ensures _ _ c.in_err-tension.was))
+pub returns-in_err-take_row : goal.returns-in_err-take_row
+returns-in_err-take_row c =
+    let b = c.args.pointLoad in
+    rw beam_rows (then_refused _ _ _ _ _ c.take_row.ensures (λ s. from_tension s b) _ c.in_err-take_row.was _ (search rules))
 
-pub returns-in_err-count : goal.returns-in_err-count
-returns-in_err-count c =
-    let e : c.from_residual-in_err-count.result ≡ Err (c.in_err-count.field-0.0) = search rules in
-    rw e (sym (beam_rows _ c.args.pointLoad _ _ ∙ then_on _ _ _ c.take_row.ensures _ _ c.in_ok-tension.was
-    ∙ then_refused _ _ _ c.take_list.ensures _ _ c.in_err-count.was))
+pub returns-in_err-take_list : goal.returns-in_err-take_list
+returns-in_err-take_list c =
+    let b = c.args.pointLoad in
+    rw beam_rows
+    (then_on _ _ _ _ _ c.take_row.ensures (λ s. from_tension s b) c.in_ok-take_row.was _ _ _
+    (then_refused _ _ _ _ _ c.take_list.ensures (λ s. from_count s b) _ c.in_err-take_list.was _ (search rules)))
 
-pub returns-in_err-compression : goal.returns-in_err-compression
-returns-in_err-compression c =
-    let e : c.from_residual-in_err-compression.result ≡ Err (c.in_err-compression.field-0.0) = search rules in
-    rw e (sym (beam_rows _ c.args.pointLoad _ _ ∙ then_on _ _ _ c.take_row.ensures _ _ c.in_ok-tension.was ∙ then_on _ _ _ c.take_list.ensures _ _ c.in_ok-count.was
-    ∙ then_refused _ _ _ c.take_row-2.ensures _ _ c.in_err-compression.was))
+pub returns-in_err-take_row-2 : goal.returns-in_err-take_row-2
+returns-in_err-take_row-2 c =
+    let b = c.args.pointLoad in
+    rw beam_rows
+    (then_on _ _ _ _ _ c.take_row.ensures (λ s. from_tension s b) c.in_ok-take_row.was _ _ _
+    (then_on _ _ _ _ _ c.take_list.ensures (λ s. from_count s b) c.in_ok-take_list.was _ _ _
+    (then_refused _ _ _ _ _ c.take_row-2.ensures (λ s. from_compression s b) _ c.in_err-take_row-2.was _ (search rules))))
 
-pub returns-in_err-links : goal.returns-in_err-links
-returns-in_err-links c =
-    let e : c.from_residual-in_err-links.result ≡ Err (c.in_err-links.field-0.0) = search rules in
-    rw e (sym (beam_rows _ c.args.pointLoad _ _ ∙ then_on _ _ _ c.take_row.ensures _ _ c.in_ok-tension.was ∙ then_on _ _ _ c.take_list.ensures _ _ c.in_ok-count.was
-    ∙ then_on _ _ _ c.take_row-2.ensures _ _ c.in_ok-compression.was ∙ then_refused _ _ _ c.take_list-2.ensures _ _ c.in_err-links.was))
+pub returns-in_err-take_list-2 : goal.returns-in_err-take_list-2
+returns-in_err-take_list-2 c =
+    let b = c.args.pointLoad in
+    rw beam_rows
+    (then_on _ _ _ _ _ c.take_row.ensures (λ s. from_tension s b) c.in_ok-take_row.was _ _ _
+    (then_on _ _ _ _ _ c.take_list.ensures (λ s. from_count s b) c.in_ok-take_list.was _ _ _
+    (then_on _ _ _ _ _ c.take_row-2.ensures (λ s. from_compression s b) c.in_ok-take_row-2.was _ _ _
+    (then_refused _ _ _ _ _ c.take_list-2.ensures (λ s. from_links s b) _ c.in_err-take_list-2.was _ (search rules)))))
 
 pub returns : goal.returns
 returns c =
-    c.take_row-3.ensures
-    ∙ sym
-    (beam_rows _ c.args.pointLoad _ _ ∙ then_on _ _ _ c.take_row.ensures _ _ c.in_ok-tension.was ∙ then_on _ _ _ c.take_list.ensures _ _ c.in_ok-count.was
-    ∙ then_on _ _ _ c.take_row-2.ensures _ _ c.in_ok-compression.was ∙ then_on _ _ _ c.take_list-2.ensures _ _ c.in_ok-links.was
-    ∙ loads_row _ c.args.pointLoad _ c.beam_field_count.ensures _ _)
+    let b = c.args.pointLoad in
+    rw beam_rows
+    (then_on _ _ _ _ _ c.take_row.ensures (λ s. from_tension s b) c.in_ok-take_row.was _ _ _
+    (then_on _ _ _ _ _ c.take_list.ensures (λ s. from_count s b) c.in_ok-take_list.was _ _ _
+    (then_on _ _ _ _ _ c.take_row-2.ensures (λ s. from_compression s b) c.in_ok-take_row-2.was _ _ _
+    (then_on _ _ _ _ _ c.take_list-2.ensures (λ s. from_links s b) c.in_ok-take_list-2.was _ _ _
+    (rw (loads_row _ b _ c.beam_field_count.ensures) c.take_row-3.ensures)))))

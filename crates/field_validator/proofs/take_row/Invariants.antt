@@ -4,4 +4,6 @@ use Rattle.field_validator.specs.Taken.{taken_row}
 use Rattle.field_validator.proofs.take_row.Given as goal
 
 abbrev pub invariant-loop-i : goal.invariant-loop-i
-invariant-loop-i l = taken_row (l.end - l.from) l.src l.at l.from l.initial.v ≡ taken_row (l.end - l.i) l.src l.p l.i l.v
+invariant-loop-i l =
+    let s = l.initial.input.src in
+    (l.input.src ≡ s) × (taken_row (l.end - l.from) s.now l.initial.input.at l.from l.initial.v ≡ taken_row (l.end - l.i) s.now l.input.at l.i l.v)

@@ -4,22 +4,26 @@ use mathlib.Core.Path.{◌≡◌, sym, ap, ◌∙◌}
 use native.Mathlib.Omega.{arith}
 use borrow.Author.Rules.{rules}
 use Rattle.std.specs.Prelude.{Ok}
-use Rattle.field_validator.specs.Placed.{of_number}
 use Rattle.members.specs.MembersResult.{members_end}
 use Rattle.members.proofs.Members.{no_member, member_read}
 use Rattle.members.proofs.validate_members.Goals as goal
 
 pub loop-i-preserved : goal.loop-i-preserved
 loop-i-preserved c =
-    let read : c.validate_member.result ≡ Ok (c.in_ok-before.field-0-0, c.in_ok-before.field-0-1) = search rules in
+    let l = c.loop-i.invariant in
+    let m = c.validate_member.ensures in
+    let read : c.validate_member.result ≡ Ok c.in_ok-before.before = search rules in
     let left : c.args.count + 1 - c.loop-i.i-counter ≡ suc (c.args.count + 1 - (c.loop-i.i-counter + 1)) = omega arith in
-    c.loop-i.invariant ∙ member_read _ _ _ _ _ _ left _ _ (sym c.validate_member.ensures ∙ ap of_number read)
+    (m.same ∙ l.0, l.1 ∙ member_read _ _ _ _ _ _ left _ _ (rw l.0 at m.reads) _ read)
 
 -- the last member
 pub returns-in_ok-before : goal.returns-in_ok-before
 returns-in_ok-before c =
-    let read : c.validate_member.result ≡ Ok (c.in_ok-before.field-0-0, c.in_ok-before.field-0-1) = search rules in
+    let l = c.loop-i.invariant in
+    let m = c.validate_member.ensures in
+    let read : c.validate_member.result ≡ Ok c.in_ok-before.before = search rules in
     let left : c.args.count + 1 - c.loop-i.i-counter ≡ suc 0 = omega arith in
-    sym
-    (c.loop-i.invariant ∙ member_read _ _ _ _ _ _ left _ _ (sym c.validate_member.ensures ∙ ap of_number read)
-    ∙ ap members_end (no_member 0 _ _ _ _ (omega arith)))
+    record {
+      same = m.same ∙ l.0;
+      reads = sym (l.1 ∙ member_read _ _ _ _ _ _ left _ _ (rw l.0 at m.reads) _ read ∙ ap members_end (no_member 0 _ _ _ _ (omega arith)));
+    }

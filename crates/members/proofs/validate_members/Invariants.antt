@@ -5,4 +5,7 @@ use Rattle.members.specs.MembersResult.{members_end}
 use Rattle.members.proofs.validate_members.Given as goal
 
 abbrev pub invariant-loop-i : goal.invariant-loop-i
-invariant-loop-i l = members_end (members l.count l.src l.at 0 1) ≡ members_end (members (l.count + 1 - l.i-counter) l.src l.p l.before l.i-counter)
+invariant-loop-i l =
+    let s = l.initial.input.src in
+    (l.input.src ≡ s)
+    × (members_end (members l.count s.now l.initial.input.at 0 1) ≡ members_end (members (l.count + 1 - l.i-counter) s.now l.input.at l.before l.i-counter))
