@@ -8,9 +8,8 @@ ghost use Rattle.program_output.specs.ProgramOutput.{output_of};
 ghost use Rattle.console.specs.Input.{ReadInto, HasTaken};
 
 use program_output::print_schedule;
-use std::fmt;
-use std::io;
 use std::io::{Read, Write};
+use std::{fmt, io};
 
 // What kept the output from being printed whole.
 #[derive(Clone, Copy)]
@@ -64,8 +63,13 @@ fn print_input<R: Read, W: Write>(input: &mut R, output: &mut W) -> Result<(), F
     ensures silent { result ≡ Err Failure.Unread → output.new ≡ output.old }
 {
     let mut src = [0u8; 60001];
-    let n = read_input(input, &mut src).map_err(|_| Failure::Unread)?;
-    print_output(&src[..n], output).map_err(|_| Failure::Unwritten)
+    let Ok(n) = read_input(input, &mut src) else {
+        return Err(Failure::Unread);
+    };
+    match print_output(&src[..n], output) {
+        Ok(()) => Ok(()),
+        Err(_) => Err(Failure::Unwritten),
+    }
 }
 
 pub fn run(rt: &HostRuntime) {
