@@ -4,12 +4,12 @@
 // refusal needs.
 #![tactic(auto)]
 
-ghost use Rattle.std.specs.Prelude.{◌≡◌, ◌+◌, ◌-◌, ◌^◌, ◌<◌, ◌≤◌, ℕ, Bool};
+ghost use Rattle.std.specs.Prelude.{◌+◌, ◌-◌, ◌≤◌, ℕ, Bool};
 ghost use Rattle.field_domain.specs.Domain.{holds};
 ghost use Rattle.field_table.specs.Fields.{groups, beam_fields_of, column_fields, fields_of};
 ghost use Rattle.varint.specs.Moved.{Moved};
 ghost use Rattle.field_validator.specs.Taken.{taken_row, taken, fields_end_of};
-ghost use Rattle.field_validator.specs.FieldsAt.{empty, checked, fields};
+ghost use Rattle.field_validator.specs.FieldsAt.{empty, Tests, checked, fields};
 ghost use Rattle.field_validator.specs.FieldsResult.{fields_read_of};
 
 use field_check::Slots;
@@ -29,7 +29,7 @@ pub fn number_that<F: Fn(u32) -> bool>(
     test: F,
 ) -> Result<u32, Question>
     requires { F.IsAlwaysCallable test }
-    ensures { (asked : ℕ → Bool) → ((x : ℕ) (b : Bool) → x < 2 ^ 32 → F.post test x b → b ≡ asked x) → Moved input.old (checked q asked input.old.src.now input.old.at) result input.new }
+    ensures { (asked : ℕ → Bool) → Tests (F.post test) asked → Moved input.old (checked q asked input.old.src.now input.old.at) result input.new }
 {
     let x = input.number()?;
     if test(x) { Ok(x) } else { Err(q) }

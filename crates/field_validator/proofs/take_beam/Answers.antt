@@ -1,7 +1,5 @@
 -- `field_validator::take_beam` meets its contract: a row or a list that was refused, or was taken and then the next.
-use mathlib.Core.Path.{◌≡◌}
 use borrow.Author.Rules.{rules}
-use Rattle.std.specs.Prelude.{Err}
 use Rattle.field_validator.proofs.Taken.{from_tension, from_count, from_compression, from_links, beam_rows, loads_row, then_refused, then_on}
 use Rattle.field_validator.proofs.take_beam.Goals as goal
 
