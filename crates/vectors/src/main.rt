@@ -11,9 +11,8 @@ ghost use Rattle.vectors.specs.Vectors.{same_bytes, Holds, pair_at, word_at, wor
 
 use line::put_refusal;
 use program_output::print_schedule;
-use question::number_of;
 use std::io::Read;
-use text_answer::TextAnswer;
+use text::Writer;
 use writer::write_schedule;
 
 #[derive(Clone, Copy)]
@@ -65,8 +64,8 @@ fn read_words(src: &[u8], words: &mut [u32]) -> usize
     ensures { Holds words.new result (words_of src.now) }
 {
     let n = src.len() / 4;
-    for (i, word) in words[..n].iter_mut().enumerate() {
-        *word = word_at(src, 4 * i);
+    for i in 0..n {
+        words[i] = word_at(src, 4 * i);
     }
     n
 }
@@ -78,7 +77,11 @@ fn write_words(words: &[u32], out: &mut [u8]) -> usize
 {
     match write_schedule(words, out) {
         Ok(n) => n,
-        Err(r) => put_refusal(out, 0, r.question.into(), r.member),
+        Err(r) => {
+            let mut w = Writer::new(out);
+            put_refusal(&mut w, u32::from(r.question), r.member);
+            w.at
+        }
     }
 }
 
@@ -135,18 +138,16 @@ fn row_tally(src: &[u8]) -> Tally
     requires { length src.now ≤ 320001 }
     ensures { (result ≡ row_tally src.now) × (result.vectors ≤ 320001) }
 {
-    let mut tally = Tally {
-        vectors: 0,
-        equal: 0,
-    };
-    let mut p: usize = 0;
+    let mut vectors: u64 = 0;
+    let mut equal: u64 = 0;
+    let mut p = 0;
     // a `while`: where a vector ends stands in its bytes
     while p < src.len() {
-        tally.equal += equal_at(src, p) as u64;
-        tally.vectors += 1;
+        equal += u64::from(equal_at(src, p));
+        vectors += 1;
         p = part_end(src, part_end(src, p + 1));
     }
-    tally
+    Tally { vectors, equal }
 }
 
 // The tally of the first n bytes of `all`, which has room for one byte more than an input may have, so that a longer one is seen.
@@ -156,7 +157,7 @@ fn input_tally(all: &[u8], n: usize) -> Tally
 {
     let t = row_tally(&all[..n]);
     Tally {
-        vectors: t.vectors + (320000 < n) as u64,
+        vectors: t.vectors + u64::from(320000 < n),
         equal: t.equal,
     }
 }
