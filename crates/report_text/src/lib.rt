@@ -2,7 +2,6 @@
 #![tactic(auto)]
 
 ghost use Rattle.std.specs.Prelude.{◌++◌};
-ghost use Rattle.text.specs.Put.{Put};
 ghost use Rattle.text.specs.Wrote.{Wrote};
 ghost use Rattle.line.specs.Line.{head_words, line_text};
 ghost use Rattle.text_answer.specs.Printed.{text_too_long, Printed};
@@ -15,6 +14,7 @@ use members::read_member;
 use question::{Question, Refusal};
 use schedule::ValidSchedule;
 use text::Writer;
+use text_answer::put_whole;
 
 // The lines of the members.
 fn put_members(w: &mut Writer, schedule: ValidSchedule)
@@ -31,35 +31,23 @@ fn put_members(w: &mut Writer, schedule: ValidSchedule)
     }
 }
 
-// The whole text: its length.
-fn put_report(schedule: ValidSchedule, out: &mut [u8]) -> usize
-    ensures { let s = schedule.entry in Put out.old 0 (line_text (head_words s.count) ++ lines_from s.count s.input.src.now s.input.at) out.new result }
+// The whole text.
+fn put_report(w: &mut Writer, schedule: ValidSchedule)
+    ensures { let s = schedule.entry in Wrote w.old (line_text (head_words s.count) ++ lines_from s.count s.input.src.now s.input.at) w.new }
 {
-    let mut w = Writer::new(out);
-    put_head(&mut w, schedule.count);
-    put_members(&mut w, schedule);
-    w.at
+    put_head(w, schedule.count);
+    put_members(w, schedule);
 }
 
-// The report. The first run only finds how long it is.
-fn print_measured(schedule: ValidSchedule, out: &mut [u8]) -> Result<usize, Refusal>
-    ensures { let s = schedule.entry in Printed (text_too_long 0) (line_text (head_words s.count) ++ lines_from s.count s.input.src.now s.input.at) out.old out.new result }
-{
-    let n = put_report(schedule, &mut []);
-    if out.len() < n {
-        Err(Question::Buffer.at(0))
-    } else {
-        Ok(put_report(schedule, out))
-    }
-}
-
-// The same. No first line is longer than 19 bytes and no other than 55, so a buffer of that size needs no first run.
+// The report. No first line is longer than 19 bytes and no other than 55.
 pub fn print_report(schedule: ValidSchedule, out: &mut [u8]) -> Result<usize, Refusal>
     ensures { let s = schedule.entry in Printed (text_too_long 0) (line_text (head_words s.count) ++ lines_from s.count s.input.src.now s.input.at) out.old out.new result }
 {
-    if 19 + 55 * (schedule.count as usize) <= out.len() {
-        Ok(put_report(schedule, out))
-    } else {
-        print_measured(schedule, out)
-    }
+    let most = 19 + 55 * (schedule.count as usize);
+    put_whole(
+        |w| put_report(w, schedule),
+        most,
+        Question::Buffer.at(0),
+        out,
+    )
 }

@@ -2,7 +2,6 @@
 #![tactic(auto)]
 
 ghost use Rattle.std.specs.Prelude.{◌++◌, ◌*◌, ◌≤◌, length};
-ghost use Rattle.text.specs.Put.{Put};
 ghost use Rattle.text.specs.Wrote.{Wrote};
 ghost use Rattle.varint.specs.Encoding.{bytes_of};
 ghost use Rattle.text_answer.specs.Printed.{Printed};
@@ -14,6 +13,7 @@ use encoding::{put_member, put_number};
 use held_schedule::{read_record, validate_held};
 use question::{Question, Refusal};
 use text::Writer;
+use text_answer::put_whole;
 
 // The bytes of the first `count` records.
 fn put_records(w: &mut Writer, words: &[u32], count: u32)
@@ -29,40 +29,27 @@ fn put_records(w: &mut Writer, words: &[u32], count: u32)
     }
 }
 
-// The whole file: its length.
-fn put_schedule(words: &[u32], count: u32, out: &mut [u8]) -> usize
+// The whole file.
+fn put_schedule(w: &mut Writer, words: &[u32], count: u32)
     requires { (count * record_words ≤ length words.now) × AllInRange (records_from count words.now 0) }
-    ensures { Put out.old 0 (bytes_of count ++ records_bytes (records_from count words.now 0)) out.new result }
+    ensures { Wrote w.old (bytes_of count ++ records_bytes (records_from count words.now 0)) w.new }
 {
-    let mut w = Writer::new(out);
-    put_number(&mut w, count);
-    put_records(&mut w, words, count);
-    w.at
+    put_number(w, count);
+    put_records(w, words, count);
 }
 
-// The file of the first `count` records. The first run only finds how long it is.
-fn write_measured(words: &[u32], count: u32, out: &mut [u8]) -> Result<usize, Refusal>
-    requires { (count * record_words ≤ length words.now) × AllInRange (records_from count words.now 0) }
-    ensures { Printed file_too_long (bytes_of count ++ records_bytes (records_from count words.now 0)) out.old out.new result }
-{
-    let n = put_schedule(words, count, &mut []);
-    if out.len() < n {
-        Err(Question::File.at(0))
-    } else {
-        Ok(put_schedule(words, count, out))
-    }
-}
-
-// The same. The count of at most 500 takes two bytes at most and no member more than 61, so a buffer of 2 + 61·count bytes needs no first run.
+// The file of the first `count` records. The count of at most 500 takes two bytes at most and no member more than 61.
 fn write_records(words: &[u32], count: u32, out: &mut [u8]) -> Result<usize, Refusal>
     requires { (count ≤ 500) × (count * record_words ≤ length words.now) × AllInRange (records_from count words.now 0) }
     ensures { Printed file_too_long (bytes_of count ++ records_bytes (records_from count words.now 0)) out.old out.new result }
 {
-    if 2 + 61 * (count as usize) <= out.len() {
-        Ok(put_schedule(words, count, out))
-    } else {
-        write_measured(words, count, out)
-    }
+    let most = 2 + 61 * (count as usize);
+    put_whole(
+        |w| put_schedule(w, words, count),
+        most,
+        Question::File.at(0),
+        out,
+    )
 }
 
 // The file of a held schedule: its members are put their questions, then its bytes are put.
