@@ -13,6 +13,9 @@ use field_table::{
 };
 use member::{Beam, Column, Load, Mesh};
 use quantity::{Force, Length};
+pub use valid::ValidMember;
+
+mod valid;
 
 fn length_at(v: &[u32; 40], i: usize) -> Length
     requires { i < 40 }

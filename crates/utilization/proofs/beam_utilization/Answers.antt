@@ -8,7 +8,7 @@ pub over_limit-requires : goal.over_limit-requires
 over_limit-requires c = (search rules, rw c.width_limit.ensures (width_limit_small _))
 
 pub over_limit-requires-2 : goal.over_limit-requires-2
-over_limit-requires-2 c = (search rules, rw c.deflection_limit.ensures (deflection_limit_small _ _ c.requires.0.l₀_most))
+over_limit-requires-2 c = (search rules, rw c.deflection_limit.ensures (deflection_limit_small _ _ c.args.x.accepted.l₀_most))
 
 pub returns : goal.returns
 unfolding beam_utilization
