@@ -21,6 +21,7 @@ use ratio::{Utilization, over_figure, over_limit, together};
 use verdict::Built;
 
 // The limit of the deflection over a span, 0.01 mm.
+#[tactic(auto, using(deflection::proofs::Bounds::divisor_between), unfolding(crate::specs::Utilization::deflection_limit))]
 fn deflection_limit(l0: Length, strict: u32) -> u64
     requires { l0.0 ≤ 12000 }
     ensures { result ≡ deflection_limit l0.0 strict }
@@ -29,16 +30,16 @@ fn deflection_limit(l0: Length, strict: u32) -> u64
     div_down(span, span_divisor(l0, strict))
 }
 
+#[tactic(auto, using(crate::proofs::Utilized::width_limit_small, crate::proofs::Utilized::deflection_limit_small), unfolding(crate::specs::Utilization::beam_utilization))]
 fn beam_utilization(x: ValidBeam, o: Outcome) -> Utilization
     requires { ExactFigures o }
     ensures { result ≡ beam_utilization quotient (beam_of x.beam) o }
 {
-    let x = x.beam;
     together(
-        over_figure(x.M, o.first),
-        over_figure(x.v.in_newtons(), o.second),
-        over_limit(o.third, width_limit(x.environment)),
-        over_limit(o.fourth, deflection_limit(x.l0, x.strict)),
+        over_figure(x.beam.M, o.first),
+        over_figure(x.beam.v.in_newtons(), o.second),
+        over_limit(o.third, width_limit(x.beam.environment)),
+        over_limit(o.fourth, deflection_limit(x.beam.l0, x.beam.strict)),
     )
 }
 

@@ -5,7 +5,7 @@ use Rattle.utilization.proofs.Utilized.{given, valid_exact}
 use Rattle.utilization.proofs.utilization_of.Goals as goal
 
 pub member_utilization-requires : goal.member_utilization-requires
-member_utilization-requires c = valid_exact _ c.check_member-o.ensures
+member_utilization-requires c = valid_exact c.in_ok-member.member c.check_member-o.ensures
 
 pub returns : goal.returns
 returns c =
