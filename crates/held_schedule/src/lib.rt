@@ -3,40 +3,37 @@
 #![tactic(auto)]
 
 ghost use Rattle.std.specs.Prelude.{◌≡◌, ◌+◌, ◌*◌, ◌≤◌, length};
-ghost use Rattle.members.specs.MembersResult.{headed};
 ghost use Rattle.schedule.specs.Schedule.{schedule_answer};
 ghost use Rattle.held_schedule.specs.HeldSchedule.{record_words, record_at, records_from, record_verdict, record_members, held_members};
 
-use members::Head;
+use field_check::Slots;
 use question::{Question, Refusal};
-use verdict::built_verdict;
+use verdict::{Built, built_verdict};
 
 // The words of a member's record: its mark, its kind, and 40 slots that hold its fields in the order of its kind's table.
-const RECORD_WORDS: usize = 42;
+pub const RECORD_WORDS: usize = 42;
 
-// The record at word `at`: its fields into slots; its mark and kind, and the word after it.
-pub fn read_record(words: &[u32], at: usize, v: &mut [u32; 40]) -> Head
+// The record at word `at`, as a member that a caller built.
+pub fn read_record(words: &[u32], at: usize) -> Built
     requires { at + record_words ≤ length words.now }
-    ensures { (headed result v.new ≡ record_at words.now at) × (result.next ≡ at + record_words) }
+    ensures { result ≡ record_at words.now at }
 {
-    let next = at + RECORD_WORDS;
-    v.copy_from_slice(&words[at + 2..next]);
-    Head {
+    let mut v = [0; 40];
+    v.copy_from_slice(&words[at + 2..at + RECORD_WORDS]);
+    Built {
         mark: words[at],
         kind: words[at + 1],
-        next,
+        fields: Slots { v },
     }
 }
 
-// The questions put to the record at word `at`.
-fn record_verdict(words: &[u32], at: usize, before: u32) -> Result<(), Question>
-    requires { at + record_words ≤ length words.now }
-    ensures { result ≡ record_verdict before (record_at words.now at) }
+// The questions put to a record whose mark must be above the one before.
+#[tactic(auto, unfolding(crate::specs::HeldSchedule::record_verdict))]
+fn record_verdict(before: u32, x: &Built) -> Result<(), Question>
+    ensures { result ≡ record_verdict before x.now }
 {
-    let mut v = [0u32; 40];
-    let r = read_record(words, at, &mut v);
-    if before < r.mark {
-        built_verdict(r.mark, r.kind, &v)
+    if before < x.mark {
+        built_verdict(x.mark, x.kind, &x.fields.v)
     } else {
         Err(Question::Mark)
     }
@@ -47,14 +44,11 @@ fn validate_records(words: &[u32], count: u32) -> Result<u32, Refusal>
     requires { (count ≤ 500) × (count * record_words ≤ length words.now) }
     ensures { result ≡ schedule_answer (record_members 0 1 (records_from count words.now 0)) }
 {
-    let mut p = 0;
     let mut before = 0;
     for i in 0..count {
-        if let Err(q) = record_verdict(words, p, before) {
-            return Err(q.at(i + 1));
-        }
-        before = words[p];
-        p += RECORD_WORDS;
+        let x = read_record(words, i as usize * RECORD_WORDS);
+        record_verdict(before, &x).map_err(|q| q.at(i + 1))?;
+        before = x.mark;
     }
     Ok(count)
 }
