@@ -14,7 +14,6 @@ use Rattle.question.specs.declared.Refusal.{Refusal}
 use Rattle.question.specs.Reading.{Verdict}
 use Rattle.question.specs.Reading.{Reading, got, no, and_then, passed, refusal, named}
 use Rattle.member.specs.Member.{Member}
-use Rattle.field_layout.specs.Layout.{slot}
 use Rattle.field_validator.proofs.Taken.{got_is}
 use Rattle.verdict.specs.declared.Built.{Built}
 use Rattle.verdict.specs.Built.{member_of}
@@ -112,11 +111,11 @@ module _ (n left : ℕ) (words : List ℕ) (p before i : ℕ) where
     record_refused q e = rw (one_more, e)
 
     pub record_accepted : record_verdict before (record_at words p) ≡ (Ok tt)
-        → answer_of n (record_members before i (records_from left words p)) ≡ answer_of n (record_members (slot words p) (i + 1) (records_from (left - 1) words (p + record_words)))
-    unfolding record_members records_from record_at
+        → answer_of n (record_members before i (records_from left words p)) ≡ answer_of n (record_members (record_at words p).mark (i + 1) (records_from (left - 1) words (p + record_words)))
+    unfolding record_members records_from
     record_accepted e =
         ap (λ (k : ℕ). answer_of n (record_members before i (records_from k words p))) one_more
-        ∙ rw e (kept (member_of (record_at words p)) (record_members (slot words p) (i + 1) (records_from (left - 1) words (p + record_words))))
+        ∙ rw e (kept (member_of (record_at words p)) (record_members (record_at words p).mark (i + 1) (records_from (left - 1) words (p + record_words))))
       where
         kept : (m : Member) (o : Reading Refusal (List Member)) → answer_of n (and_then o (λ ms. got (m ∷ ms))) ≡ answer_of n o
         kept m (got ms) = refl

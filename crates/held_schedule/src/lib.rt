@@ -40,6 +40,7 @@ fn record_verdict(before: u32, x: &Built) -> Result<(), Question>
 }
 
 // The same of `count` records, one after the other.
+#[tactic(auto, using(crate::proofs::Records::record_refused))]
 fn validate_records(words: &[u32], count: u32) -> Result<u32, Refusal>
     requires { (count ≤ 500) × (count * record_words ≤ length words.now) }
     ensures { result ≡ schedule_answer (record_members 0 1 (records_from count words.now 0)) }

@@ -17,7 +17,8 @@ use Rattle.varint.specs.Varint.{number_at}
 use Rattle.varint.proofs.Septets.{same_value}
 use Rattle.member.specs.Member.{Member}
 use Rattle.member.specs.Accepted.{AcceptedMember, AcceptedMembers}
-use Rattle.field_table.specs.Fields.{kind_of}
+use Rattle.field_layout.specs.declared.valid.ValidMember.{ValidMember}
+use Rattle.field_layout.specs.Valid.{valid_member}
 use Rattle.verdict.specs.declared.Built.{Built}
 use Rattle.verdict.specs.Built.{member_of}
 use Rattle.verdict.specs.Verdict.{built_verdict}
@@ -108,12 +109,12 @@ module _ (x : Built) where
             (line_safe (member_of x) (line_of 0 (member_text (member_of x))) (accepted_built x.mark x.kind x.fields.v e) (parsed_alone (mark_of (member_of x)) (outcome_of (member_of x))));
       }
 
-  pub printed_member : {d d' : List ℕ} {a : TextAnswer} (o : Outcome) → o ≡ outcome_of (member_of x) →
-      Printed (text_too_long 1) (line_text (line_words x.mark o)) d d' a → Printed (text_too_long 1) (member_text (member_of x)) d d' a
-  printed_member o e p = rw (mark_of_lem x.mark (kind_of x.kind) x.fields.v, ← e) p
+  pub printed_member : {d d' : List ℕ} {a : TextAnswer} (m : ValidMember) (o : Outcome) → valid_member m ≡ member_of x → o ≡ outcome_of (valid_member m) →
+      Printed (text_too_long 1) (line_text (line_words m.mark o)) d d' a → Printed (text_too_long 1) (member_text (member_of x)) d d' a
+  printed_member m o same e p = rw (← same, mark_of_lem m.mark m.kind m.fields.v, ← e) p
 
   pub member_refused : (d : List ℕ) (q : Question) → built_verdict x.mark x.kind x.fields.v ≡ Err q →
-      MemberReported x d d (Err (refusal q 1))
+      MemberReported x d d (Err (record { question = q; member = 1 }))
   unfolding member_report_of
   member_refused d q e =
       record { answer_is = rw e (refused_is (text_too_long 1) (refusal q 1) d).0; buffer_is = rw e (refused_is (text_too_long 1) (refusal q 1) d).1; claim = λ w. absurd (numbered q w) }

@@ -4,12 +4,11 @@
 ghost use Rattle.report.specs.ReportClaim.{Reported, MemberReported};
 
 use checks::check_member;
-use field_table::kind_of;
 use question::Refusal;
 use report_text::print_report;
 use schedule::validate_schedule;
 use text_answer::print_line;
-use verdict::{Built, built_verdict};
+use verdict::Built;
 
 // The report of a schedule's bytes.
 pub fn report(src: &[u8], out: &mut [u8]) -> Result<usize, Refusal>
@@ -19,12 +18,10 @@ pub fn report(src: &[u8], out: &mut [u8]) -> Result<usize, Refusal>
 }
 
 // The line of a member that a caller built.
+#[tactic(auto, using(crate::proofs::ReportClaim::member_refused))]
 pub fn member_report(x: Built, out: &mut [u8]) -> Result<usize, Refusal>
     ensures { MemberReported x out.old out.new result }
 {
-    let v = x.fields.v;
-    match built_verdict(x.mark, x.kind, &v) {
-        Err(q) => Err(q.at(1)),
-        Ok(()) => print_line(x.mark, check_member(x.mark, kind_of(x.kind), &v), out),
-    }
+    let member = x.validate().map_err(|q| q.at(1))?;
+    print_line(member.mark, check_member(&member), out)
 }

@@ -8,6 +8,7 @@ ghost use Rattle.text_answer.specs.Printed.{text_too_long, Printed};
 ghost use Rattle.report_text.specs.ReportText.{lines_from};
 
 use checks::check_member;
+use field_layout::ValidMember;
 use field_table::kind_of;
 use line::{put_head, put_line};
 use members::read_member;
@@ -23,11 +24,12 @@ fn put_members(w: &mut Writer, schedule: ValidSchedule)
     let mut input = schedule.input;
     for _ in 0..schedule.count {
         let m = read_member(&mut input);
-        put_line(
-            w,
-            m.mark,
-            check_member(m.mark, kind_of(m.kind), &m.fields.v),
-        );
+        let x = ValidMember {
+            mark: m.mark,
+            kind: kind_of(m.kind),
+            fields: m.fields,
+        };
+        put_line(w, x.mark, check_member(&x));
     }
 }
 

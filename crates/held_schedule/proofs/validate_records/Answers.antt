@@ -4,7 +4,7 @@ use Prim.Native.Nat.{ℕ, ◌+◌, ◌-◌, ◌*◌, ◌<◌}
 use mathlib.Core.Path.{◌≡◌, sym, ◌∙◌}
 use native.Mathlib.Omega.{arith}
 use borrow.Author.Rules.{rules}
-use Rattle.held_schedule.proofs.Records.{counted, no_record, record_refused, record_accepted}
+use Rattle.held_schedule.proofs.Records.{counted, no_record, record_accepted}
 use Rattle.held_schedule.proofs.validate_records.Goals as goal
 
 one_fewer : (n i : ℕ) → n - (i + 1) ≡ n - i - 1
@@ -22,7 +22,7 @@ pub loop-i-preserved : goal.loop-i-preserved
 loop-i-preserved c =
     let h : 0 < c.args.count - c.loop-i.i-counter = omega arith in
     let yes : c.record_verdict.result ≡ Ok tt = search rules in
-    rw (one_fewer c.args.count c.loop-i.i-counter, one_on c.loop-i.i-counter)
+    rw (one_fewer c.args.count c.loop-i.i-counter, one_on c.loop-i.i-counter, c.read_record-x.ensures)
     (c.loop-i.invariant ∙ record_accepted _ _ _ _ _ _ h (rw c.read_record-x.ensures at (sym c.record_verdict.ensures ∙ yes)))
 
 pub returns : goal.returns

@@ -1,6 +1,5 @@
-use Prim.Native.Nat.{◌+◌, ◌-◌, ◌*◌, ◌≤◌}
+use Prim.Native.Nat.{◌+◌, ◌-◌, ◌*◌}
 use mathlib.Core.Path.{◌≡◌}
-use lib.ListN.{length}
 use Rattle.schedule.specs.Schedule.{schedule_answer}
 use Rattle.held_schedule.specs.HeldSchedule.{record_words, records_from, record_members}
 use Rattle.held_schedule.proofs.Records.{answer_of}

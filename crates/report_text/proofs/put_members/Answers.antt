@@ -15,9 +15,9 @@ read_member-m-requires c =
     let l = c.loop.invariant in
     rw l.0 (first_accepted _ _ _ (omega arith) l.1)
 
-pub check_member-requires : goal.check_member-requires
-check_member-requires c =
-    rw c.kind_of.ensures (member_was _ _ 0 c.read_member-m.result _ (sym c.read_member-m.ensures.reads)).accepted
+pub invariant_of-x : goal.invariant_of-x
+invariant_of-x c =
+    record { accepted = rw c.kind_of.ensures (member_was _ _ 0 c.read_member-m.result _ (sym c.read_member-m.ensures.reads)).accepted }
 
 pub loop-preserved : goal.loop-preserved
 loop-preserved c =
