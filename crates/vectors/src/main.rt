@@ -7,7 +7,7 @@
 
 ghost use Rattle.std.specs.Prelude.{◌≡◌, ◌+◌, ◌≤◌, ◌<◌, length, get_or, take};
 ghost use Rattle.program_output.specs.ProgramOutput.{output_of};
-ghost use Rattle.vectors.specs.Vectors.{same_bytes, Holds, pair_at, word_at, words_of, written_of, answer_to, part_end, equal_at, one_if, row_tally, tally_of};
+ghost use Rattle.vectors.specs.Vectors.{same_bytes, Holds, pair_at, word_at, words_of, written_of, answer_to, part_end, equal_at, row_tally, tally_of};
 
 use line::put_refusal;
 use program_output::print_schedule;
