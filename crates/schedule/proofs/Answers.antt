@@ -28,6 +28,11 @@ module _ (s : List ℕ) where
   unfolding schedule
   too_long h = rw (lt-leb _ _ h)
 
+  -- a count that is too large
+  pub too_many : (n at : ℕ) → length s ≤ 60000 → number_at s 0 ≡ Ok (n, at) → 500 < n → schedule_answer (schedule s) ≡ Err (refusal Count 0)
+  unfolding schedule
+  too_many n at short count h = rw (le-leb _ _ short, count, lt-leb _ _ h)
+
   -- the count is refused or read
   module _ (short : length s ≤ 60000) (r : Result ℕ Question) (at : ℕ) (was : reading_of r at ≡ of_number (number_at s 0)) where
     pub no_count : (q : Question) → r ≡ Err q → schedule_answer (schedule s) ≡ Err (refusal q 0)
@@ -37,10 +42,6 @@ module _ (s : List ℕ) where
     module _ (n : ℕ) (count : r ≡ Ok n) where
       pub count_was : number_at s 0 ≡ Ok (n, at)
       count_was = number_was_read _ r at was n count
-
-      pub too_many : 500 < n → schedule_answer (schedule s) ≡ Err (refusal Count 0)
-      unfolding schedule
-      too_many h = rw (le-leb _ _ short, count_was, lt-leb _ _ h)
 
       -- what follows the members
       after : Reading Refusal (Placed (List Member)) → Reading Refusal (List Member)

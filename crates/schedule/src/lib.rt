@@ -14,7 +14,7 @@ use varint::Cursor;
 mod valid;
 
 // The validator of a schedule: every question that is put to it before its report.
-#[tactic(auto, using(crate::proofs::Answers::too_long, crate::proofs::Answers::no_count, crate::proofs::Answers::count_was, crate::proofs::Answers::all_accepted))]
+#[tactic(auto, using(crate::proofs::Answers::too_long, crate::proofs::Answers::no_count, crate::proofs::Answers::count_was, crate::proofs::Answers::too_many, crate::proofs::Answers::all_accepted))]
 pub fn validate_schedule(src: &[u8]) -> Result<ValidSchedule<'_>, Refusal>
     ensures answer { count_of result ≡ schedule_answer (schedule src.now) }
     ensures first { IfOk result (λ v. (v.input.src ≡ src.entry) × (number_at src.now 0 ≡ Ok (v.count, v.input.at))) }

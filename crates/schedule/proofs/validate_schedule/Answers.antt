@@ -1,14 +1,10 @@
 -- `schedule::validate_schedule` meets its contract.
 use mathlib.Core.Path.{◌≡◌, sym}
+use native.Mathlib.Omega.{arith}
 use borrow.Author.Rules.{rules}
 use Rattle.std.specs.Prelude.{Err, Ok}
-use Rattle.schedule.proofs.Answers.{too_many, member_no, bytes_left, all_read}
+use Rattle.schedule.proofs.Answers.{member_no, bytes_left, all_read}
 use Rattle.schedule.proofs.validate_schedule.Goals as goal
-
-pub returns-then-count-gt500-clause-answer : goal.returns-then-count-gt500-clause-answer
-returns-then-count-gt500-clause-answer c =
-    let count : c.number.result ≡ Ok c.in_ok-count.count = search rules in
-    rw c.at-then-count-gt500.ensures (sym (too_many _ c.if-src-gt60000.false _ _ c.number.ensures.reads _ count c.if-count-gt500.true))
 
 pub returns-in_err-validate_members-clause-answer : goal.returns-in_err-validate_members-clause-answer
 returns-in_err-validate_members-clause-answer c =
@@ -16,17 +12,17 @@ returns-in_err-validate_members-clause-answer c =
     let ends = rw c.number.ensures.same at c.validate_members.ensures.reads in
     let e : c.from_residual-in_err-validate_members.result ≡ Err (c.in_err-validate_members.field-0.0) = search rules in
     rw e
-    (sym (member_no _ c.if-src-gt60000.false _ _ c.number.ensures.reads _ count c.if-count-gt500.false _ _ ends _ c.in_err-validate_members.was))
+    (sym (member_no c.args.src.now (omega arith) _ _ c.number.ensures.reads c.in_ok-count.count count (omega arith) _ _ ends _ c.in_err-validate_members.was))
 
 pub returns-then-end-src-clause-answer : goal.returns-then-end-src-clause-answer
 returns-then-end-src-clause-answer c =
     let count : c.number.result ≡ Ok c.in_ok-count.count = search rules in
     let ends = rw c.number.ensures.same at c.validate_members.ensures.reads in
     rw c.at-then-end-src.ensures
-    (sym (bytes_left _ c.if-src-gt60000.false _ _ c.number.ensures.reads _ count c.if-count-gt500.false _ _ ends c.in_ok-validate_members.was c.if-end-src.true))
+    (sym (bytes_left c.args.src.now (omega arith) _ _ c.number.ensures.reads c.in_ok-count.count count (omega arith) _ _ ends c.in_ok-validate_members.was (omega arith)))
 
 pub returns-clause-answer : goal.returns-clause-answer
 returns-clause-answer c =
     let count : c.number.result ≡ Ok c.in_ok-count.count = search rules in
     let ends = rw c.number.ensures.same at c.validate_members.ensures.reads in
-    sym (all_read _ c.if-src-gt60000.false _ _ c.number.ensures.reads _ count c.if-count-gt500.false _ _ ends c.in_ok-validate_members.was c.if-end-src.false)
+    sym (all_read c.args.src.now (omega arith) _ _ c.number.ensures.reads c.in_ok-count.count count (omega arith) _ _ ends c.in_ok-validate_members.was (omega arith))
