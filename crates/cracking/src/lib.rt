@@ -30,7 +30,7 @@ fn steel_stress_of(mq: u64, h0: u64, s: u64) -> u64
 }
 
 // σ, 0.0001 N/mm².
-fn steel_stress(x: ValidSection) -> u64
+pub fn steel_stress(x: ValidSection) -> u64
     requires { stress_holds x.section ≡ true }
     ensures { result ≡ σ x.section }
 {
@@ -68,7 +68,7 @@ fn twice_tension_area(x: ValidSection) -> u64
 
 // q, the mean stress between cracks, from σ.
 #[tactic(auto, unfolding(crate::specs::Steps::q))]
-fn mean_stress(x: ValidSection, stress: u64) -> u64
+pub fn mean_stress(x: ValidSection, stress: u64) -> u64
     requires { (stress ≡ σ x.section) × (stress ≤ stress_most) }
     ensures { result ≡ q x.section }
 {

@@ -4,7 +4,6 @@ use Rattle.question.specs.declared.Question.{Question}
 use Rattle.question.specs.declared.Refusal.{Refusal}
 use Rattle.member.specs.Member.{Member}
 use Rattle.verdict.specs.declared.Built.{Built}
-use Rattle.members.specs.declared.Head.{Head}
 use Rattle.question.specs.Reading.{Reading, got, no}
 use Rattle.varint.specs.Placed.{Placed, placed}
 
@@ -12,10 +11,6 @@ use Rattle.varint.specs.Placed.{Placed, placed}
 abbrev pub marked : Reading Question (Placed Built) → Reading Question (Placed ℕ)
 marked (got b) = got (placed b.value.mark b.next)
 marked (no q) = no q
-
--- the member of this mark and kind whose fields stand in the slots v
-abbrev pub headed : Head → List ℕ → Built
-headed r v = record { mark = r.mark; kind = r.kind; fields = record { v = v } }
 
 -- where a row of members ends
 abbrev pub members_end : Reading Refusal (Placed (List Member)) → Reading Refusal (Placed (Unit {0}))

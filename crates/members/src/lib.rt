@@ -16,14 +16,6 @@ use question::{Question, Refusal};
 use varint::Cursor;
 use verdict::{Built, mark_in_range, member_verdict};
 
-// The mark and kind of a member, and the place after it.
-#[derive(Clone, Copy)]
-pub struct Head {
-    pub mark: u32,
-    pub kind: u32,
-    pub next: usize,
-}
-
 // The member with this mark and the kind of this number, whose fields come next and are validated one by one: its mark.
 #[tactic(auto, using(field_validator::proofs::Held::fields_held, crate::proofs::Members::fields_read, crate::proofs::Members::body_accepted))]
 fn validate_one_by_one(input: &mut Cursor, mark: u32, number: u32) -> Result<u32, Question>
