@@ -7,7 +7,7 @@ use mathlib.Core.List.{List, [], ◌∷◌}
 use native.Mathlib.Omega.{arith}
 use lib.Dec.{ltb}
 use lib.ListN.{length}
-use borrow.Author.Tests.{lt-ltb, le-ltb, lt-leb, le-leb, leb-true}
+use borrow.Author.Tests.{lt-leb, le-leb, leb-true}
 use Rattle.question.specs.declared.Question.{Question}
 use Rattle.question.specs.declared.Question.TheVariants.{Count, Mark}
 use Rattle.question.specs.declared.Refusal.{Refusal}
@@ -17,7 +17,6 @@ use Rattle.member.specs.Member.{Member}
 use Rattle.field_validator.proofs.Taken.{got_is}
 use Rattle.verdict.specs.declared.Built.{Built}
 use Rattle.verdict.specs.Built.{member_of}
-use Rattle.verdict.specs.Verdict.{built_verdict}
 use Rattle.verdict.proofs.Accepted.{asked_yes, BuiltPassed, built_passed}
 use Rattle.members.proofs.Accepted.{no_got, went_on}
 use Rattle.schedule.specs.Schedule.{ScheduleAnswer}
@@ -69,17 +68,6 @@ pub records_length : (n : ℕ) (words : List ℕ) (p : ℕ) → length (records_
 unfolding records_from
 records_length zero words p = refl
 records_length (suc n) words p = ap suc (records_length n words (p + record_words))
-
--- ---- A record's verdict, at its two ways out.
-
-module _ (before : ℕ) (x : Built) where
-  pub mark_rises_lem : before < x.mark → record_verdict before x ≡ built_verdict x.mark x.kind x.fields.v
-  unfolding record_verdict
-  mark_rises_lem h = rw (lt-ltb _ _ h)
-
-  pub mark_stays : x.mark ≤ before → record_verdict before x ≡ Err Mark
-  unfolding record_verdict
-  mark_stays h = rw (le-ltb _ _ h)
 
 -- ---- The walk.
 
