@@ -3,15 +3,13 @@
 
 ghost use Rattle.std.specs.Prelude.{◌≡◌};
 ghost use Rattle.text_answer.specs.Printed.{numbers_of};
-ghost use Rattle.governing.specs.Governing.{governing_value};
-ghost use Rattle.utilization.specs.Utilized.{values_of, values_given, values_refused};
+ghost use Rattle.utilization.specs.Utilized.{values_of};
 ghost use Rattle.answer_record.specs.AnswerRecord.{answer_record};
-ghost use Rattle.answer_record.specs.UtilizationRecord.{with_governing, utilization_record};
+ghost use Rattle.answer_record.specs.UtilizationRecord.{utilization_record};
 
-use governing::{Governing, governing_of};
-use question::{Refusal, number_of};
-use ratio::Utilization;
-use text_answer::TextAnswer;
+use governing::governing_of;
+use question::Refusal;
+use ratio::{Utilization, together};
 
 // An answer: question 0 says that the text, or the file, stands in the buffer's first `length` bytes; any other names the question that was answered
 // no and the member, and the buffer is as it was.
@@ -24,22 +22,21 @@ pub struct AnswerRecord {
 }
 
 // The answer of a report or of a file.
-pub fn answer_record(a: TextAnswer) -> AnswerRecord
-    ensures { result ≡ answer_record (numbers_of a) }
-{
-    match a {
-        TextAnswer::Written(n) => AnswerRecord {
-            question: 0,
-            member: 0,
-            length: n,
-        },
-        TextAnswer::Refused(r) => {
-            let q = r.question;
-            AnswerRecord {
-                question: number_of(q),
+impl From<Result<usize, Refusal>> for AnswerRecord {
+    ghost from_gives = { λ a r. r ≡ answer_record (numbers_of a) };
+
+    fn from(a: Result<usize, Refusal>) -> AnswerRecord {
+        match a {
+            Ok(length) => AnswerRecord {
+                question: 0,
+                member: 0,
+                length,
+            },
+            Err(r) => AnswerRecord {
+                question: r.question.into(),
                 member: r.member,
                 length: 0,
-            }
+            },
         }
     }
 }
@@ -56,56 +53,29 @@ pub struct UtilizationRecord {
     pub governing: f64,
 }
 
-fn with_governing(u: Utilization, g: Governing) -> UtilizationRecord
-    ensures { result ≡ with_governing (values_given u) (governing_value g) }
-{
-    match g {
-        Governing::Largest(x) => UtilizationRecord {
-            question: 0,
-            member: 0,
-            utilization: u,
-            governs: true,
-            governing: x,
-        },
-        Governing::None => UtilizationRecord {
-            question: 0,
-            member: 0,
-            utilization: u,
-            governs: false,
-            governing: 0.0,
-        },
-    }
-}
-
-fn refused_utilization(refusal: Refusal) -> UtilizationRecord
-    ensures { result ≡ utilization_record (values_refused refusal) }
-{
-    let utilization = Utilization {
-        first: 0.0,
-        second: 0.0,
-        third: 0.0,
-        fourth: 0.0,
-        firstReached: false,
-        secondReached: false,
-        thirdReached: false,
-        fourthReached: false,
-    };
-    let q = refusal.question;
-    UtilizationRecord {
-        question: number_of(q),
-        member: refusal.member,
-        utilization,
-        governs: false,
-        governing: 0.0,
-    }
-}
-
 // The answer of a member's utilization.
-pub fn utilization_record(a: utilization::UtilizationAnswer) -> UtilizationRecord
-    ensures { result ≡ utilization_record (values_of a) }
-{
-    match a {
-        utilization::UtilizationAnswer::Given(u) => with_governing(u, governing_of(u)),
-        utilization::UtilizationAnswer::Refused(r) => refused_utilization(r),
+impl From<Result<Utilization, Refusal>> for UtilizationRecord {
+    ghost from_gives = { λ a r. r ≡ utilization_record (values_of a) };
+
+    fn from(a: Result<Utilization, Refusal>) -> UtilizationRecord {
+        match a {
+            Ok(utilization) => {
+                let governing = governing_of(utilization);
+                UtilizationRecord {
+                    question: 0,
+                    member: 0,
+                    utilization,
+                    governs: governing.is_some(),
+                    governing: governing.unwrap_or(0.0),
+                }
+            }
+            Err(refusal) => UtilizationRecord {
+                question: refusal.question.into(),
+                member: refusal.member,
+                utilization: together(None, None, None, None),
+                governs: false,
+                governing: 0.0,
+            },
+        }
     }
 }

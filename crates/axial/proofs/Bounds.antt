@@ -12,7 +12,7 @@ use Rattle.stability.specs.Steps.{stability}
 use Rattle.stability.proofs.Bounds.{stability_most}
 use Rattle.member.specs.Member.{Column}
 use Rattle.member.specs.Accepted.{AcceptedColumn}
-use Rattle.bars.proofs.Groups.{sums}
+use Rattle.bars.proofs.Sums.{sums}
 use Rattle.axial.specs.Given.{Given}
 use Rattle.axial.specs.Steps.{gross_area, steel_area, concrete_area, squash_load, axial_capacity}
 

@@ -3,50 +3,48 @@
 
 ghost use Rattle.std.specs.Prelude.{◌≡◌, true, ◌*◌, ◌≤◌};
 ghost use Rattle.member.specs.Member.{column_of};
-ghost use Rattle.member.specs.Accepted.{AcceptedColumn};
-ghost use Rattle.axial.specs.Given.{Given};
 ghost use Rattle.axial.specs.Steps.{gross_area, steel_area, steel_fits, slenderness_fits, concrete_area, squash_load, axial_capacity};
 
-use bars::steel_area;
-use material::{Concrete, Steel};
-use member::Column;
+pub use given::GivenColumn;
+use member::ValidColumn;
 use quantity::{Force, div_down};
 use stability::stability_of;
 
+mod given;
+
 // S, in tenths of mm².
-fn bars_area(x: Column) -> u64
-    requires { AcceptedColumn (column_of x) }
-    ensures { result ≡ steel_area (column_of x) }
+fn bars_area(x: ValidColumn) -> u64
+    ensures { result ≡ steel_area (column_of x.column) }
 {
-    let groups = x.groups;
-    steel_area(groups, x.count)
+    x.column.groups.steel_area()
 }
 
 // A, in mm².
-fn gross_area(x: Column) -> u64
-    requires { AcceptedColumn (column_of x) }
-    ensures { result ≡ gross_area (column_of x) }
+#[tactic(auto, using(crate::proofs::Bounds::gross_most))]
+fn gross_area(x: ValidColumn) -> u64
+    ensures { result ≡ gross_area (column_of x.column) }
 {
-    x.b.in_millimetres() * x.h.in_millimetres()
+    x.column.b.in_millimetres() * x.column.h.in_millimetres()
 }
 
 // 5.6.1.
-pub fn steel_fits(x: Column) -> bool
-    requires { AcceptedColumn (column_of x) }
-    ensures { result ≡ steel_fits (column_of x) }
+#[tactic(auto, unfolding(crate::specs::Steps::steel_fits))]
+pub fn steel_fits(x: ValidColumn) -> bool
+    ensures { result ≡ steel_fits (column_of x.column) }
 {
     2 * bars_area(x) <= gross_area(x)
 }
 
 // 4.2.4s.
-pub fn slenderness_fits(x: Column) -> bool
-    requires { AcceptedColumn (column_of x) }
-    ensures { result ≡ slenderness_fits (column_of x) }
+#[tactic(auto, unfolding(crate::specs::Steps::slenderness_fits))]
+pub fn slenderness_fits(x: ValidColumn) -> bool
+    ensures { result ≡ slenderness_fits (column_of x.column) }
 {
-    x.l0.in_millimetres() <= 50 * x.b.in_millimetres()
+    x.column.l0.in_millimetres() <= 50 * x.column.b.in_millimetres()
 }
 
 // The area of the concrete, in tenths of mm².
+#[tactic(auto, unfolding(crate::specs::Steps::concrete_area))]
 fn concrete_area(gross: u64, bars: u64) -> u64
     requires { (gross ≤ 2250000) × (2 * bars ≤ gross) }
     ensures { result ≡ concrete_area gross bars }
@@ -59,22 +57,23 @@ fn concrete_area(gross: u64, bars: u64) -> u64
 }
 
 // fc·A + fy'·S, in hundredths of N.
-fn squash_load(x: Column, concrete: Concrete, steel: Steel) -> u64
-    requires { (Given (column_of x) concrete steel) × (steel_fits (column_of x) ≡ true) }
-    ensures { result ≡ squash_load (column_of x) concrete steel }
+#[tactic(auto, unfolding(crate::specs::Steps::squash_load))]
+fn squash_load(x: GivenColumn) -> u64
+    requires { steel_fits (column_of x.valid.column) ≡ true }
+    ensures { result ≡ squash_load (column_of x.valid.column) x.concrete x.steel }
 {
-    let bars = bars_area(x);
-    concrete.fc.in_tenths() * concrete_area(gross_area(x), bars)
-        + 10 * steel.axial.in_units() * bars
+    let bars = bars_area(x.valid);
+    x.concrete.fc.in_tenths() * concrete_area(gross_area(x.valid), bars)
+        + 10 * x.steel.axial.in_units() * bars
 }
 
 // 4.2.4.
-pub fn axial_capacity(x: Column, concrete: Concrete, steel: Steel) -> Force
-    requires { (Given (column_of x) concrete steel) × (steel_fits (column_of x) ≡ true) × (slenderness_fits (column_of x) ≡ true) }
-    ensures { result.0 ≡ axial_capacity (column_of x) concrete steel }
+#[tactic(auto, unfolding(crate::specs::Steps::axial_capacity))]
+pub fn axial_capacity(x: GivenColumn) -> Force
+    requires { (steel_fits (column_of x.valid.column) ≡ true) × (slenderness_fits (column_of x.valid.column) ≡ true) }
+    ensures { result.0 ≡ axial_capacity (column_of x.valid.column) x.concrete x.steel }
 {
-    let b = x.b.in_millimetres();
-    let stability = stability_of(x.l0.in_millimetres(), b);
-    let load = squash_load(x, concrete, steel);
-    Force::of_newtons(div_down(9 * stability * load, 200000 * b))
+    let b = x.valid.column.b.in_millimetres();
+    let stability = stability_of(x.valid.column.l0.in_millimetres(), b);
+    Force::of_newtons(div_down(9 * stability * squash_load(x), 200000 * b))
 }

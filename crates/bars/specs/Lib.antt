@@ -1,2 +1,3 @@
 pub mod Sums
 pub mod Accepted
+pub mod Listed

@@ -1,27 +1,24 @@
 // The checks of a beam.
 #![tactic(auto)]
 
-ghost use Rattle.std.specs.Prelude.{◌≡◌, true, ◌*◌, ◌≤◌, if◌then◌else◌};
+ghost use Rattle.std.specs.Prelude.{◌≡◌, true, if◌then◌else◌};
 ghost use Rattle.member.specs.Member.{beam_of};
-ghost use Rattle.member.specs.Accepted.{AcceptedBeam};
-ghost use Rattle.section.specs.Section.{G, S};
-ghost use Rattle.section.specs.Bounded.{Bounded};
 ghost use Rattle.bending.specs.Steps.{compression_depth};
 ghost use Rattle.beam.specs.Checks.{from_least_links, from_spacing, from_shear, from_bending, from_depth, section_outcome, beam_outcome};
 
 use bending::{bending_capacity, compression_depth, compression_yields, least_steel};
-use member::Beam;
+use member::ValidBeam;
 use outcome::{Check, Outcome, no_figure, one_figure, two_figures};
-use section::{Section, section_of};
+use section::{ReinforcedSection, ValidSection, valid_section};
 use serviceability::from_stress;
 use shear::{ShearResult, check_shear, least_links, link_spacing};
 
 // 5.5.6r.
-fn from_least_links(x: Section, moment: u64, shear: u64) -> Outcome
-    requires { (Bounded x) × (G x ≤ 50 * S x) }
-    ensures { result ≡ from_least_links x moment shear }
+#[tactic(auto, unfolding(crate::specs::Checks::from_least_links))]
+fn from_least_links(x: ReinforcedSection, moment: u64, shear: u64) -> Outcome
+    ensures { result ≡ from_least_links x.valid.section moment shear }
 {
-    if least_links(x) {
+    if least_links(x.valid) {
         from_stress(x, moment, shear)
     } else {
         two_figures(Check::LeastLinks, moment, shear)
@@ -29,11 +26,11 @@ fn from_least_links(x: Section, moment: u64, shear: u64) -> Outcome
 }
 
 // 5.5.6s.
-fn from_spacing(x: Section, moment: u64, shear: u64) -> Outcome
-    requires { (Bounded x) × (G x ≤ 50 * S x) }
-    ensures { result ≡ from_spacing x moment shear }
+#[tactic(auto, unfolding(crate::specs::Checks::from_spacing))]
+fn from_spacing(x: ReinforcedSection, moment: u64, shear: u64) -> Outcome
+    ensures { result ≡ from_spacing x.valid.section moment shear }
 {
-    if link_spacing(x) {
+    if link_spacing(x.valid) {
         from_least_links(x, moment, shear)
     } else {
         two_figures(Check::LinkSpacing, moment, shear)
@@ -41,11 +38,11 @@ fn from_spacing(x: Section, moment: u64, shear: u64) -> Outcome
 }
 
 // 6.3.1v, then 4.3.3.
-fn from_shear(x: Section, moment: u64) -> Outcome
-    requires { (Bounded x) × (G x ≤ 50 * S x) }
-    ensures { result ≡ from_shear x moment }
+#[tactic(auto, unfolding(crate::specs::Checks::from_shear))]
+fn from_shear(x: ReinforcedSection, moment: u64) -> Outcome
+    ensures { result ≡ from_shear x.valid.section moment }
 {
-    match check_shear(x) {
+    match check_shear(x.valid) {
         ShearResult::AboveWebLimit => one_figure(Check::WebCrushing, moment),
         ShearResult::AboveCapacity(shear) => two_figures(Check::Shear, moment, shear.in_newtons()),
         ShearResult::WithinBoth(shear) => from_spacing(x, moment, shear.in_newtons()),
@@ -53,15 +50,16 @@ fn from_shear(x: Section, moment: u64) -> Outcome
 }
 
 // 4.2.2 or 4.2.3.
-fn from_bending(x: Section) -> Outcome
-    requires { (Bounded x) × (G x ≤ 50 * S x) × (compression_depth x ≡ true) }
-    ensures { result ≡ from_bending x }
+#[tactic(auto, unfolding(crate::specs::Checks::from_bending))]
+fn from_bending(x: ReinforcedSection) -> Outcome
+    requires { compression_depth x.valid.section ≡ true }
+    ensures { result ≡ from_bending x.valid.section }
 {
-    let moment = bending_capacity(x);
-    if x.M <= moment {
+    let moment = bending_capacity(x.valid);
+    if x.valid.section.M <= moment {
         from_shear(x, moment)
     } else {
-        one_figure(bending_check(compression_yields(x)), moment)
+        one_figure(bending_check(compression_yields(x.valid)), moment)
     }
 }
 
@@ -77,11 +75,11 @@ fn bending_check(yields: bool) -> Check
 }
 
 // 4.2.2-3.
-fn from_depth(x: Section) -> Outcome
-    requires { (Bounded x) × (G x ≤ 50 * S x) }
-    ensures { result ≡ from_depth x }
+#[tactic(auto, unfolding(crate::specs::Checks::from_depth))]
+fn from_depth(x: ReinforcedSection) -> Outcome
+    ensures { result ≡ from_depth x.valid.section }
 {
-    if compression_depth(x) {
+    if compression_depth(x.valid) {
         from_bending(x)
     } else {
         no_figure(Check::CompressionDepth)
@@ -89,21 +87,21 @@ fn from_depth(x: Section) -> Outcome
 }
 
 // 6.3.1 and what follows.
-fn check_section(x: Section) -> Outcome
-    requires { Bounded x }
-    ensures { result ≡ section_outcome x }
+#[tactic(auto, unfolding(crate::specs::Checks::section_outcome))]
+fn check_section(x: ValidSection) -> Outcome
+    ensures { result ≡ section_outcome x.section }
 {
     if least_steel(x) {
-        from_depth(x)
+        from_depth(ReinforcedSection { valid: x })
     } else {
         no_figure(Check::LeastSteel)
     }
 }
 
 // The checks of an accepted beam.
-pub fn check_beam(x: Beam) -> Outcome
-    requires { AcceptedBeam (beam_of x) }
-    ensures { result ≡ beam_outcome (beam_of x) }
+#[tactic(auto, unfolding(crate::specs::Checks::beam_outcome))]
+pub fn check_beam(x: ValidBeam) -> Outcome
+    ensures { result ≡ beam_outcome (beam_of x.beam) }
 {
-    check_section(section_of(x))
+    check_section(valid_section(x))
 }

@@ -1,14 +1,14 @@
 -- Each test of bending reflects its exact inequality.
-use Prim.Native.Nat.{◌+◌, ◌*◌, ◌≤◌, ◌<◌}
+use Prim.Native.Nat.{◌+◌, ◌*◌, ◌≤◌}
 use mathlib.Core.Path.{◌≡◌, refl, sym, ◌∙◌}
 use mathlib.Core.Bool.{Bool, true, false, ◌||◌}
 use native.Mathlib.Nat.{mul-zero, zero-mul}
 use native.Mathlib.Omega.{arith}
 use lib.Dec.{leb}
-use borrow.Author.Tests.{leb-true, le-leb, lt-leb, eqb-true}
+use borrow.Author.Tests.{leb-true, le-leb, eqb-true}
 use Rattle.quantity.proofs.Reflects.{Reflects, reflects_le, reflects_both}
 use Rattle.section.specs.declared.Section.{Section}
-use Rattle.section.specs.Section.{h₀, a', G, S, S', ft, fy, ξb}
+use Rattle.section.specs.Section.{h₀, a', S', ξb}
 use Rattle.section.specs.Bounded.{Bounded}
 use Rattle.bending.specs.Steps.{least_steel, tension_force, compression_force, k, compression_depth, compression_yields}
 use Rattle.bending.specs.Exact.{LeastSteelHolds, DepthHolds}
@@ -17,15 +17,6 @@ use Rattle.bending.proofs.Forces.{at_most_same, tension_over, limit_over}
 pub least_steel_reflects : (x : Section) → Reflects (least_steel x) (LeastSteelHolds x)
 unfolding least_steel
 least_steel_reflects x = reflects_both (reflects_le _ _) (reflects_le _ _)
-
--- Its second comparison decides where the first holds.
-pub least_steel_second : (x : Section) → G x ≤ 50 * S x → leb (45 * ft x * G x) (1000 * S x * fy x) ≡ least_steel x
-unfolding least_steel
-least_steel_second x h = rw (le-leb _ _ h)
-
-pub least_steel_short : (x : Section) → 50 * S x < G x → false ≡ least_steel x
-unfolding least_steel
-least_steel_short x h = rw (lt-leb _ _ h)
 
 -- 4.2.2-3 in whole numbers, and over fractions.
 pub depth_compared : (x : Section) → compression_depth x ≡ true →

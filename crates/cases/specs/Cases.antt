@@ -1,19 +1,18 @@
 -- Document 01's tabled cases ("One schedule, printed") and some beside them, in one table: what the definitions give for members and bytes that are written out.
-use Rattle.std.specs.Prelude.{ℕ, ◌*◌, ◌≡◌, true, false, List, [], ◌∷◌, ◌++◌, map, replicate, negsuc, Float}
+use Rattle.std.specs.Prelude.{ℕ, ◌*◌, ◌≡◌, true, false, List, [], ◌∷◌, ◌++◌, map, replicate, negsuc, Float, None, Some}
 use Prim.Native.Char.{code}
 use Prim.Native.String.{String, [] as []ₛ, ◌∷◌ as ◌∷ₛ◌}
 use Rattle.std.specs.Float.{fin}
 use Rattle.text.specs.Text.{value_of, word_of, line_of}
 use Rattle.quantity.specs.Unit.{millimetres}
 use Rattle.member.specs.declared.Load.TheVariants.{Uniform, Point}
-use Rattle.outcome.specs.declared.Figure.TheVariants.{Reached, Unreached}
 use Rattle.line.specs.ParsedLine.{parse_line}
 use Rattle.question.specs.declared.Question.TheVariants.{Mark, Kind, Field, Consistency, ServiceMoment}
 use Rattle.deflection.specs.Steps.{span_divisor}
 use Rattle.stability.specs.Steps.{stability}
 use Rattle.ratio.specs.declared.Utilization.{Utilization}
 use Rattle.ratio.specs.Ratio.{nought, no_ratio, four_ratios}
-use Rattle.governing.specs.Governing.{double, none, governing_of}
+use Rattle.governing.specs.Governing.{governing_of}
 use Rattle.utilization.specs.Utilized.{values_given, values_refused}
 use Rattle.question.specs.Reading.{got, no, refusal}
 use Rattle.schedule.specs.Schedule.{schedule}
@@ -335,19 +334,19 @@ pub record Table : Type 0 where
       parse_line (line_of 1 printed) ≡ record {
         mark = 1;
         word = bytes "OK";
-        first = Reached 179495;
-        second = Reached 177587;
-        third = Reached 172;
-        fourth = Reached 1885;
+        first = Some 179495;
+        second = Some 177587;
+        third = Some 172;
+        fourth = Some 1885;
       }
   pub failed-parsed :
       parse_line (bytes "1 4.3.3 179495 177587 - -") ≡ record {
         mark = 1;
         word = bytes "4.3.3";
-        first = Reached 179495;
-        second = Reached 177587;
-        third = Unreached;
-        fourth = Unreached;
+        first = Some 179495;
+        second = Some 177587;
+        third = None;
+        fourth = None;
       }
   -- members that a caller builds: which field stands where, and that each list is taken up to its count
   pub placed_beam_lem : lent_member (placed_beam 1) (bars 1 6 ++ bars 2 8) (bars 3 10 ++ (bars 4 12 ++ bars 5 14)) ≡ beam_placed Uniform (bars 1 6) (bars 3 10 ++ bars 4 12)
@@ -428,7 +427,7 @@ pub record Table : Type 0 where
   pub utilization_service : lent_utilization_of (built_beam_with 1 1 90000 90001 0) (bars 4 20) [] ≡ values_refused (refusal ServiceMoment 1)
   pub utilization_point_service : lent_utilization_of (built_beam_with 4 1 90000 90001 0) (bars 4 20) [] ≡ values_refused (refusal ServiceMoment 1)
   -- the moment governs the beam, the lap the mesh
-  pub governs_1 : governing_of of_beam ≡ double of_beam.first
-  pub governs_web : governing_of of_moment_alone ≡ double of_moment_alone.first
-  pub governs_3 : governing_of of_mesh ≡ double of_mesh.second
-  pub governs_none : governing_of of_none ≡ none
+  pub governs_1 : governing_of of_beam ≡ Some of_beam.first
+  pub governs_web : governing_of of_moment_alone ≡ Some of_moment_alone.first
+  pub governs_3 : governing_of of_mesh ≡ Some of_mesh.second
+  pub governs_none : governing_of of_none ≡ None

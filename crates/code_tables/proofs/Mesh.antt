@@ -1,6 +1,5 @@
--- The table of mesh multiples: how the code reaches an entry, and the table's rule.
-use Prim.Native.Nat.{ℕ, ◌+◌, ◌-◌, ◌*◌, ◌/◌, ◌%◌, ◌≤◌, min}
-use mathlib.Core.Path.{◌≡◌, ◌∙◌}
+-- The rule of the table of mesh multiples.
+use Prim.Native.Nat.{ℕ, ◌+◌, ◌-◌, ◌*◌, ◌/◌, ◌≤◌, min}
 use mathlib.Core.List.{List, []}
 use native.Mathlib.Omega.{arith}
 use mathlib.Core.Bool.{Bool, ◌&&◌}
@@ -8,19 +7,6 @@ use lib.Dec.{eqb, eqb→eq, leb, leb→le}
 use lib.ListN.{length, get_or}
 use Rattle.code_tables.specs.Mesh.{multiples, multiple}
 use Rattle.table.proofs.Table.{every, every_at, and_left, and_right}
-
--- rows of 5 entries: the entry at 5·row + column
-pub multiple_found : (family cross grade s l x : ℕ) → s ≡ min grade 40 → l ≡ s - 20 →
-    let i = 5 * (2 * (family - 1) + cross) + l / 5 in
-    x ≡ get_or (get_or multiples (i / 5) []) (i % 5) 0 → x ≡ multiple family cross grade
-unfolding multiple
-multiple_found family cross grade s l x p q e =
-    let r = 2 * (family - 1) + cross in
-    let row : (5 * r + l / 5) / 5 ≡ r = omega arith in
-    let column : (5 * r + l / 5) % 5 ≡ (min grade 40 - 20) / 5 = omega arith in
-    e ∙ rw (row, column)
-
--- ---- The table's rule.
 
 fits : ℕ → ℕ → Bool
 fits k x = leb 1 x && leb x 60

@@ -1,25 +1,17 @@
 -- Question 8: what a yes says.
-use Prim.Native.Nat.{ℕ, zero, suc, ◌+◌, ◌-◌, ◌*◌, ◌≤◌, ◌<◌}
-use mathlib.Core.Path.{◌≡◌, refl, sym, ap, ◌∙◌}
+use Prim.Native.Nat.{ℕ, ◌+◌, ◌*◌, ◌≤◌, ◌<◌}
+use mathlib.Core.Path.{◌≡◌, sym, ap, ◌∙◌}
 use mathlib.Core.Bool.{Bool, true, ◌||◌, false≢true, or-false}
-use mathlib.Core.List.{List, [], ◌∷◌}
 use native.Mathlib.Omega.{arith}
 use lib.Dec.{eqb, leb, ltb}
-use lib.ListN.{length, take}
+use lib.ListN.{length}
 use borrow.Author.Tests.{leb-true, ltb-true, eqb-true, eq-eqb, ne_eqb}
 use Rattle.quantity.proofs.Choice.{if_case, both_true}
-use Rattle.bars.specs.declared.Group.{Group}
 use Rattle.member.specs.declared.Load.{Load}
 use Rattle.member.specs.declared.Load.TheVariants.{Uniform, Point}
 use Rattle.member.specs.Member.{Beam, Column, Mesh, h₀}
 use Rattle.member.specs.Accepted.{LoadWithin}
 use Rattle.consistency.specs.Consistency.{flange_fits, compression_fits, depth_fits, load_fits, beam_consistent, column_consistent, mesh_consistent}
-
--- of four places, a count of 0 takes none, and no other does
-pub none_taken : (n : ℕ) (gs : List Group) → length gs ≡ 4 → eqb n 0 ≡ eqb (length (take n gs)) 0
-none_taken zero gs l = refl
-none_taken (suc n) [] l = absurd (omega arith)
-none_taken (suc n) (g ∷ gs) l = ne_eqb (suc n) 0 (λ e. omega arith) ∙ sym (ne_eqb (suc (length (take n gs))) 0 (λ e. omega arith))
 
 -- 8 of a beam
 pub record Related (x : Beam) : Type 0 where

@@ -1,48 +1,33 @@
 // Question 8: whether the fields of a member fit each other.
 #![tactic(auto)]
 
-ghost use Rattle.std.specs.Prelude.{◌≡◌, eqb, take, length};
+ghost use Rattle.std.specs.Prelude.{◌≡◌};
 ghost use Rattle.member.specs.Member.{beam_of, column_of, mesh_of};
 ghost use Rattle.consistency.specs.Consistency.{flange_fits, compression_fits, depth_fits, load_fits, beam_consistent, column_consistent, mesh_consistent};
-ghost use Rattle.member.specs.Accepted.{BeamInRange};
 
-use bars::Group;
-use member::{Beam, Column, Load, Mesh, effective_depth};
-use quantity::{and, or};
-
-fn no_groups(groups: [Group; 4], count: usize) -> bool
-    ensures { result ≡ eqb (length (take count groups)) 0 }
-{
-    count == 0
-}
+use member::{Beam, Column, Load, Mesh, RangedBeam, effective_depth};
+use quantity::Length;
 
 // 8, the flange: bf ≥ b; hf = 0 if bf = b, else 1 ≤ hf ≤ h/2.
-fn flange_fits(x: Beam) -> bool
-    requires { BeamInRange (beam_of x) }
-    ensures { result ≡ flange_fits (beam_of x) }
+#[tactic(auto, unfolding(crate::specs::Consistency::flange_fits))]
+fn flange_fits(x: RangedBeam) -> bool
+    ensures { result ≡ flange_fits (beam_of x.beam) }
 {
-    let b = x.b.in_millimetres();
-    let bf = x.bf.in_millimetres();
-    let hf = x.hf.in_millimetres();
-    if bf < b {
-        return false;
+    let hf = x.beam.hf.in_millimetres();
+    if x.beam.bf == x.beam.b {
+        hf == 0
+    } else {
+        x.beam.b < x.beam.bf && 1 <= hf && 2 * hf <= x.beam.h.in_millimetres()
     }
-    if bf == b {
-        return hf == 0;
-    }
-    if hf < 1 {
-        return false;
-    }
-    2 * hf <= x.h.in_millimetres()
 }
 
 // 8, the compression steel: a' = 0 exactly without its groups.
+#[tactic(auto, unfolding(crate::specs::Consistency::compression_fits))]
 fn compression_fits(x: Beam) -> bool
     ensures { result ≡ compression_fits (beam_of x) }
 {
     let ac = x.ac.in_millimetres();
-    let compression = x.compression;
-    if no_groups(compression, x.compressions) {
+    if x.compression.items().is_empty() {
         ac == 0
     } else {
         0 < ac
@@ -50,51 +35,47 @@ fn compression_fits(x: Beam) -> bool
 }
 
 // 8, the depth: as + a' ≤ h/2; c < as; l0 ≤ 30·h0.
-fn depth_fits(x: Beam) -> bool
-    requires { BeamInRange (beam_of x) }
-    ensures { result ≡ depth_fits (beam_of x) }
+#[tactic(auto, unfolding(crate::specs::Consistency::depth_fits))]
+fn depth_fits(x: RangedBeam) -> bool
+    ensures { result ≡ depth_fits (beam_of x.beam) }
 {
-    let h = x.h.in_millimetres();
-    let at = x.at.in_millimetres();
-    let faces = 2 * (at + x.ac.in_millimetres()) <= h;
-    let cover = x.c.in_millimetres() < at;
-    let slender = x.l0.in_millimetres() <= 30 * effective_depth(x).in_millimetres();
-    and(faces, and(cover, slender))
+    let at = x.beam.at.in_millimetres();
+    2 * (at + x.beam.ac.in_millimetres()) <= x.beam.h.in_millimetres()
+        && x.beam.c < x.beam.at
+        && x.beam.l0.in_millimetres() <= 30 * effective_depth(x.beam).in_millimetres()
 }
 
 // 8, the point load of kind 4: a ≤ l0.
-fn load_fits(x: Beam) -> bool
-    ensures { result ≡ load_fits (beam_of x).load (beam_of x).l₀ }
+#[tactic(auto, unfolding(crate::specs::Consistency::load_fits))]
+fn load_fits(load: Load, l0: Length) -> bool
+    ensures { result ≡ load_fits load l0.0 }
 {
-    let l0 = x.l0.in_millimetres();
-    let load = x.load;
     match load {
         Load::Uniform => true,
-        Load::Point(a) => a.in_millimetres() <= l0,
+        Load::Point(a) => a <= l0,
     }
 }
 
 // 8, of a beam.
-pub fn beam_consistent(x: Beam) -> bool
-    requires { BeamInRange (beam_of x) }
-    ensures { result ≡ beam_consistent (beam_of x) }
+#[tactic(auto, unfolding(crate::specs::Consistency::beam_consistent))]
+pub fn beam_consistent(x: RangedBeam) -> bool
+    ensures { result ≡ beam_consistent (beam_of x.beam) }
 {
-    and(
-        flange_fits(x),
-        and(compression_fits(x), and(depth_fits(x), load_fits(x))),
-    )
+    flange_fits(x) && compression_fits(x.beam) && depth_fits(x) && load_fits(x.beam.load, x.beam.l0)
 }
 
 // 8, of a column: b ≤ h.
+#[tactic(auto, unfolding(crate::specs::Consistency::column_consistent))]
 pub fn column_consistent(x: Column) -> bool
     ensures { result ≡ column_consistent (column_of x) }
 {
-    x.b.in_millimetres() <= x.h.in_millimetres()
+    x.b <= x.h
 }
 
 // 8, of a mesh: apart = 0 unless cross bar = 0.
+#[tactic(auto, unfolding(crate::specs::Consistency::mesh_consistent))]
 pub fn mesh_consistent(x: Mesh) -> bool
     ensures { result ≡ mesh_consistent (mesh_of x) }
 {
-    or(x.apart == 0, x.cross == 0)
+    x.apart == 0 || x.cross == 0
 }

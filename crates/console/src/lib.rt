@@ -8,17 +8,10 @@ ghost use Rattle.program_output.specs.ProgramOutput.{output_of};
 ghost use Rattle.console.specs.Input.{ReadInto, HasTaken};
 
 use program_output::print_schedule;
-use std::io;
 use std::io::{Read, Write};
+use std::{fmt, io};
 
-#[derive(Clone, Copy)]
-enum Input {
-    // how many bytes stand at the buffer's start: the whole input, or as much of it as there is room for
-    Bytes(usize),
-    // a read failed
-    Failed,
-}
-
+// What kept the output from being printed whole.
 #[derive(Clone, Copy)]
 enum Failure {
     // a read failed, and nothing was written
@@ -27,22 +20,31 @@ enum Failure {
     Unwritten,
 }
 
-// Reads until the input ends or the buffer is full. The buffer has a byte more than a schedule may have: question 1 sees a longer one.
-// A read that a signal interrupts has failed, too.
-fn read_input<R: Read>(input: &mut R, buf: &mut [u8]) -> Input
+impl fmt::Display for Failure {
+    fn fmt<W: fmt::Write>(&self, f: &mut fmt::Formatter<W>) -> fmt::Result {
+        match self {
+            Failure::Unread => f.write_str("koxaltes: input could not be read"),
+            Failure::Unwritten => f.write_str("koxaltes: output could not be written"),
+        }
+    }
+}
+
+// Reads until the input ends or the buffer is full: how many bytes stand at the buffer's start. The buffer has a byte more than a schedule
+// may have: question 1 sees a longer one. A read that a signal interrupts has failed, too.
+// A `while`: how many bytes a read brings is known only after it.
+fn read_input<R: Read>(input: &mut R, buf: &mut [u8]) -> io::Result<usize>
     requires { 60000 < length buf.old }
     ensures within { ReadInto result buf.new }
     ensures bytes { HasTaken (R.remaining input.old) (R.remaining input.new) result buf.new }
 {
     let mut n: usize = 0;
     while n < buf.len() {
-        match input.read(&mut buf[n..]) {
-            Ok(0) => break,
-            Ok(more) => n += more,
-            Err(_) => return Input::Failed,
+        match input.read(&mut buf[n..])? {
+            0 => break,
+            more => n += more,
         }
     }
-    Input::Bytes(n)
+    Ok(n)
 }
 
 // Writes the report, or the refusal; 60,000 bytes are room for either.
@@ -61,23 +63,17 @@ fn print_input<R: Read, W: Write>(input: &mut R, output: &mut W) -> Result<(), F
     ensures silent { result ≡ Err Failure.Unread → output.new ≡ output.old }
 {
     let mut src = [0u8; 60001];
-    match read_input(input, &mut src) {
-        Input::Bytes(n) => match print_output(&src[..n], output) {
-            Ok(()) => Ok(()),
-            Err(_) => Err(Failure::Unwritten),
-        },
-        Input::Failed => Err(Failure::Unread),
+    let Ok(n) = read_input(input, &mut src) else {
+        return Err(Failure::Unread);
+    };
+    match print_output(&src[..n], output) {
+        Ok(()) => Ok(()),
+        Err(_) => Err(Failure::Unwritten),
     }
 }
 
 pub fn run(rt: &HostRuntime) {
-    match print_input(&mut rt.stdin(), &mut rt.stdout()) {
-        Ok(()) => {}
-        Err(Failure::Unread) => {
-            let _ = rt.eprintln("koxaltes: input could not be read");
-        }
-        Err(Failure::Unwritten) => {
-            let _ = rt.eprintln("koxaltes: output could not be written");
-        }
+    if let Err(failure) = print_input(&mut rt.stdin(), &mut rt.stdout()) {
+        let _ = eprintln!(rt; "{failure}");
     }
 }

@@ -1,5 +1,5 @@
 -- The clauses' own formulas are the steps without rounding, in other units: σ is f in 0.0001 N/mm², the width in 0.001 mm.
-use Prim.Native.Nat.{ℕ, ◌-◌, ◌*◌, ◌<◌}
+use Prim.Native.Nat.{ℕ, ◌*◌, ◌<◌}
 use native.Mathlib.Nat.{mul-pos}
 use native.Mathlib.Omega.{arith}
 use Rattle.quantity.specs.Rounding.{clamp}
@@ -9,7 +9,7 @@ use Rattle.quantity.proofs.Rounding.{expand}
 use Rattle.quantity.proofs.Fraction.{level, Same, same_trans, same_difference, same_smaller, same_larger, same_product, product_smaller, product_larger, product_difference, proper_difference, proper_larger, proper_quotient, positive_product}
 use Rattle.quantity.proofs.Near.{times, over, same_times, same_over, quotient_times}
 use Rattle.section.specs.declared.Section.{Section}
-use Rattle.section.specs.Section.{b, h₀, c, W, S, E, D, Mq, ftk}
+use Rattle.section.specs.Section.{h₀, c, W, S, E, D, Mq, ftk}
 use Rattle.cracking.specs.Exact.{As, f, p, ψ, exact_width}
 use Rattle.cracking.proofs.Rounded.{stress*, stiffening*, mean*, spacing*, width*}
 

@@ -1,5 +1,5 @@
 -- How far each rounded step lies from the same step without rounding (the starred definitions), in thousandths, and its bound.
-use Prim.Native.Nat.{ℕ, ◌-◌, ◌*◌, ◌^◌, ◌<◌, ◌≤◌}
+use Prim.Native.Nat.{ℕ, ◌*◌, ◌^◌, ◌<◌, ◌≤◌}
 use native.Mathlib.Nat.{mul-pos, mul-le-mul, le-mul_of_pos_right}
 use native.Mathlib.Omega.{arith}
 use Rattle.quantity.specs.Rounding.{clamp}

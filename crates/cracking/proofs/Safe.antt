@@ -1,5 +1,5 @@
 -- The crack width is safe, and what the checks of stress and width say of the exact inequalities; the sizes of the stresses.
-use Prim.Native.Nat.{ℕ, ◌-◌, ◌*◌, ◌^◌, ◌<◌, ◌≤◌}
+use Prim.Native.Nat.{ℕ, ◌*◌, ◌^◌, ◌<◌, ◌≤◌}
 use mathlib.Core.Path.{◌≡◌}
 use mathlib.Core.Bool.{Bool, true, false}
 use native.Mathlib.Nat.{mul-pos, mul-le-mul_right}
@@ -42,6 +42,8 @@ unfolding σ steel_stress
 pub q_most : (x : Section) → Bounded x → stress_holds x ≡ true → q x ≤ stress_most
 unfolding q
 q_most x a e = omega (arith, mean_most (σ x) (stiffening (ftk x) (W x) (S x)), σ_most x a e)
+
+pub ruleset stress_sizes = (σ_most, q_most)
 
 web_most : (x : Section) → G x ≤ 50 * S x → W x ≤ 100 * S x
 web_most x h = omega arith

@@ -2,16 +2,16 @@
 #![tactic(auto)]
 
 ghost use Rattle.std.specs.Prelude.{◌≡◌, ◌*◌, ◌≤◌};
-ghost use Rattle.section.specs.Section.{b, h₀, S};
-ghost use Rattle.section.specs.Bounded.{Bounded};
+ghost use Rattle.section.specs.Section.{b, h₀, S, Ec};
 ghost use Rattle.cracking.specs.Bounds.{stress_most};
-ghost use Rattle.cracking.specs.Steps.{σ, q};
 ghost use Rattle.deflection.specs.Bounds.{flexibility_most, curvature_most, deflection_most};
 ghost use Rattle.deflection.specs.Steps.{flexibility, curvature, short_term, long_term, deflection, by_span, span_divisor, deflection_holds};
 
-use quantity::{Length, div_down, div_up, saturating_sub, smaller};
-use section::Section;
+use cracking::LoadedSection;
+use quantity::{Length, div_down, div_up};
+use section::ValidSection;
 
+#[tactic(auto, unfolding(crate::specs::Steps::flexibility))]
 fn flexibility_of(s: u64, ec: u64, b: u64, h0: u64) -> u64
     requires { (1 ≤ s) × (s ≤ 800000) × (25500 ≤ ec) × (ec ≤ 40000) × (b ≤ 1000) × (h0 ≤ 2000) × (5 * s ≤ 2 * b * h0) }
     ensures { result ≡ flexibility s ec b h0 }
@@ -19,6 +19,7 @@ fn flexibility_of(s: u64, ec: u64, b: u64, h0: u64) -> u64
     200000 + div_up(120000000000 * s, ec * b * h0)
 }
 
+#[tactic(auto, unfolding(crate::specs::Steps::curvature))]
 fn curvature_of(mean: u64, z: u64, stress: u64) -> u64
     requires { (mean ≤ stress_most) × (z ≤ flexibility_most) × (stress ≤ stress_most) }
     ensures { result ≡ curvature mean z stress }
@@ -26,6 +27,7 @@ fn curvature_of(mean: u64, z: u64, stress: u64) -> u64
     div_up(115 * mean, 100) + div_up(z * stress, 1000000)
 }
 
+#[tactic(auto, unfolding(crate::specs::Steps::short_term))]
 fn short_term_of(l0: u64, h0: u64, r: u64) -> u64
     requires { (l0 ≤ 12000) × (l0 ≤ 30 * h0) × (1 ≤ h0) × (h0 ≤ 2000) × (r ≤ curvature_most) }
     ensures { result ≡ short_term l0 h0 r }
@@ -33,36 +35,37 @@ fn short_term_of(l0: u64, h0: u64, r: u64) -> u64
     div_up(29 * (l0 * l0) * r, 6400 * h0)
 }
 
+#[tactic(auto, unfolding(crate::specs::Steps::long_term))]
 fn long_term_of(s: u64, sc: u64, flanged: bool) -> u64
     requires { (1 ≤ s) × (s ≤ 800000) }
     ensures { result ≡ long_term s sc flanged }
 {
-    let theta = saturating_sub(2000000, div_down(400000 * smaller(s, sc), s));
+    let theta = 2000000_u64.saturating_sub(div_down(400000 * s.min(sc), s));
     if flanged { div_up(6 * theta, 5) } else { theta }
 }
 
-// The curvature's factor of the section, from σ and q.
-fn section_curvature(x: Section, stress: u64, mean: u64) -> u64
-    requires { (Bounded x) × (stress ≤ stress_most) × (mean ≤ stress_most) }
-    ensures { result ≡ curvature mean (flexibility (S x) (Rattle.section.specs.Section.Ec x) (b x) (h₀ x)) stress }
+// The curvature's factor of the section.
+fn section_curvature(x: LoadedSection) -> u64
+    ensures { let y = x.valid.section in result ≡ curvature x.mean (flexibility (S y) (Ec y) (b y) (h₀ y)) x.stress }
 {
+    let section = x.valid.section;
     let z = flexibility_of(
-        x.tension,
-        x.concrete.ec.in_units(),
-        x.b.in_millimetres(),
-        x.h0.in_millimetres(),
+        section.tension,
+        section.concrete.ec.in_units(),
+        section.b.in_millimetres(),
+        section.h0.in_millimetres(),
     );
-    curvature_of(mean, z, stress)
+    curvature_of(x.mean, z, x.stress)
 }
 
-// 4.5.1: the deflection, 0.01 mm, from σ and q.
-pub fn deflection_figure(x: Section, stress: u64, mean: u64) -> u64
-    requires { (Bounded x) × (stress ≡ σ x) × (stress ≤ stress_most) × (mean ≡ q x) × (mean ≤ stress_most) }
-    ensures { result ≡ deflection x }
+// 4.5.1: the deflection, 0.01 mm.
+pub fn deflection_figure(x: LoadedSection) -> u64
+    ensures { result ≡ deflection x.valid.section }
 {
-    let r = section_curvature(x, stress, mean);
-    let u = short_term_of(x.l0.in_millimetres(), x.h0.in_millimetres(), r);
-    let theta = long_term_of(x.tension, x.compression, x.flanged);
+    let section = x.valid.section;
+    let r = section_curvature(x);
+    let u = short_term_of(section.l0.in_millimetres(), section.h0.in_millimetres(), r);
+    let theta = long_term_of(section.tension, section.compression, section.flanged);
     div_up(u * theta, 1000000000000)
 }
 
@@ -77,6 +80,7 @@ fn by_span(l0: u64, below: u64, to: u64, above: u64) -> u64
 }
 
 // The deflection is held to l0 over this.
+#[tactic(auto, unfolding(crate::specs::Steps::span_divisor))]
 pub fn span_divisor(l0: Length, strict: u32) -> u64
     ensures { result ≡ span_divisor l0.0 strict }
 {
@@ -89,9 +93,10 @@ pub fn span_divisor(l0: Length, strict: u32) -> u64
 }
 
 // Whether the deflection, as a figure, keeps its limit.
-pub fn deflection_holds(x: Section, figure: u64) -> bool
-    requires { (Bounded x) × (figure ≡ deflection x) × (figure ≤ deflection_most) }
-    ensures { result ≡ deflection_holds x }
+#[tactic(auto, unfolding(crate::specs::Steps::deflection_holds))]
+pub fn deflection_holds(x: ValidSection, figure: u64) -> bool
+    requires { (figure ≡ deflection x.section) × (figure ≤ deflection_most) }
+    ensures { result ≡ deflection_holds x.section }
 {
-    figure * span_divisor(x.l0, x.strict) <= 100 * x.l0.in_millimetres()
+    figure * span_divisor(x.section.l0, x.section.strict) <= 100 * x.section.l0.in_millimetres()
 }

@@ -5,7 +5,8 @@ use mathlib.Core.Bool.{Bool, true, false}
 use mathlib.Core.List.{List, [], ◌∷◌, ◌++◌, append_assoc}
 use native.Mathlib.Numerals.{add-one}
 use native.Mathlib.Omega.{arith}
-use lib.ListN.{length}
+use lib.ListN.{length, get_or, drop, drop_of_length-le}
+use lib.Seq.{drop-cons}
 use native.Mathlib.Decide.{dec_le}
 use Rattle.field_domain.proofs.InRange.{in_between}
 use Rattle.field_table.specs.Fields.{tension_count, compression_count, beam_links, column_count, column_links, beam_fields, beam_fields_of, column_fields, mesh_fields, known, kind_of}
@@ -24,14 +25,13 @@ bytes_append (n ∷ a) b = ap (λ (t : List ℕ). bytes_of n ++ t) (bytes_append
 
 -- ---- A row, as the loop of `put_row` puts it.
 
-pub row_none : (v : List ℕ) (i end : ℕ) → end ≤ i → part v i (end - i) ≡ []
-row_none v i end h = let e : end - i ≡ 0 = omega arith in rw e
+pub row_more : (s : List ℕ) (i : ℕ) → i < length s → bytes_of_all (drop i s) ≡ bytes_of (get_or s i 0) ++ bytes_of_all (drop (i + 1) s)
+unfolding bytes_of_all
+row_more s i h = rw (add-one, drop-cons s i 0 h)
 
-pub row_more : (v : List ℕ) (i end : ℕ) → i < end → part v i (end - i) ≡ slot v i ∷ part v (i + 1) (end - (i + 1))
-row_more v i end h =
-    let e : end - i ≡ suc (end - (i + 1)) = omega arith in
-    let f : i + 1 ≡ suc i = omega arith in
-    rw (e, f)
+pub row_none : (s : List ℕ) (i : ℕ) → length s ≤ i → bytes_of_all (drop i s) ≡ []
+unfolding bytes_of_all
+row_none s i h = rw (drop_of_length-le s h)
 
 -- ---- A list.
 

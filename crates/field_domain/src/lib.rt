@@ -6,7 +6,6 @@ ghost use Rattle.field_domain.specs.Domain.{in_range, bar, group_diameter, group
 
 use code_tables::area_of;
 use material::{is_grade, is_link_steel, is_steel};
-use quantity::{and, or};
 
 // What a field may hold.
 #[derive(Clone, Copy)]
@@ -29,13 +28,13 @@ pub enum Domain {
 pub fn in_range(lo: u32, hi: u32, x: u32) -> bool
     ensures { result ≡ in_range lo hi x }
 {
-    and(lo <= x, x <= hi)
+    lo <= x && x <= hi
 }
 
 fn is_bar(lo: u32, hi: u32, x: u32) -> bool
     ensures { result ≡ bar lo hi x }
 {
-    and(in_range(lo, hi, x), 0 < area_of(x))
+    in_range(lo, hi, x) && 0 < area_of(x)
 }
 
 // A group's diameter.
@@ -53,12 +52,13 @@ pub fn is_group_bars(x: u32) -> bool
 }
 
 // Question 7 of a field that holds x.
+#[tactic(auto, unfolding(crate::specs::Domain::holds))]
 pub fn domain_holds(d: Domain, x: u32) -> bool
     ensures { result ≡ holds d x }
 {
     match d {
         Domain::Range(lo, hi) => in_range(lo, hi, x),
-        Domain::ZeroOr(lo, hi) => or(x == 0, in_range(lo, hi, x)),
+        Domain::ZeroOr(lo, hi) => x == 0 || in_range(lo, hi, x),
         Domain::Bar(lo, hi) => is_bar(lo, hi, x),
         Domain::Grade => is_grade(x),
         Domain::Steel => is_steel(x),
@@ -72,35 +72,27 @@ pub fn domain_holds(d: Domain, x: u32) -> bool
 fn has_group(v: &[u32; 40], count: u32, place: u32) -> bool
     ensures { result ≡ ltb place (get_or v.now count 0) }
 {
-    // the length of a slice is known to the proof, that of a lent array is not
-    let slots: &[u32] = v;
-    let i = count as usize;
-    if i < slots.len() {
-        place < slots[i]
-    } else {
-        false
-    }
+    v.get(count as usize).is_some_and(|n| place < *n)
 }
 
 // Whether the field is there: a group past its count is not.
+#[tactic(auto, unfolding(crate::specs::Domain::is_present))]
 pub fn field_present(d: Domain, v: &[u32; 40]) -> bool
     ensures { result ≡ is_present d v.now }
 {
     match d {
-        Domain::GroupDiameter(count, place) => has_group(v, count, place),
-        Domain::GroupBars(count, place) => has_group(v, count, place),
+        Domain::GroupDiameter(count, place) | Domain::GroupBars(count, place) => {
+            has_group(v, count, place)
+        }
         _ => true,
     }
 }
 
 // Question 7 of the field in slot i.
+#[tactic(auto, unfolding(crate::specs::Domain::field_holds))]
 pub fn slot_holds(d: Domain, i: usize, v: &[u32; 40]) -> bool
     requires { i < 40 }
     ensures { result ≡ field_holds d i v.now }
 {
-    if field_present(d, v) {
-        domain_holds(d, v[i])
-    } else {
-        true
-    }
+    !field_present(d, v) || domain_holds(d, v[i])
 }

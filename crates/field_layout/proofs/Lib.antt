@@ -1,3 +1,2 @@
-mod Made
 pub mod Held
 pub mod Part

@@ -1,37 +1,34 @@
 // Which slot holds which field: the slots of a member as the fields of a beam, a column or a mesh.
 #![tactic(auto)]
 
-ghost use Rattle.std.specs.Prelude.{◌≡◌, ◌+◌, ◌<◌, [], ◌∷◌, get_or};
+ghost use Rattle.std.specs.Prelude.{◌≡◌, ◌<◌, get_or};
+ghost use Rattle.bars.specs.Listed.{groups_in};
 ghost use Rattle.member.specs.Member.{beam_of, column_of, mesh_of};
 ghost use Rattle.field_table.specs.Fields.{shear_span};
-ghost use Rattle.field_layout.specs.Layout.{group, load_at, beam_at, column_at, mesh_at};
+ghost use Rattle.field_layout.specs.Layout.{group, groups_at, load_at, beam_at, column_at, mesh_at};
 
-use bars::Group;
+use bars::{Group, Groups};
 use field_table::{
-    BEAM_LINKS, COLUMN_COUNT, COLUMN_GROUPS, COLUMN_LINKS, COMPRESSION_COUNT, COMPRESSION_GROUPS,
-    SHEAR_SPAN, TENSION_COUNT, TENSION_GROUPS,
+    BEAM_LINKS, COLUMN_COUNT, COLUMN_LINKS, COMPRESSION_COUNT, SHEAR_SPAN, TENSION_COUNT,
 };
 use member::{Beam, Column, Load, Mesh};
-use quantity::{Force, Length, widen};
+use quantity::{Force, Length};
+pub use valid::ValidMember;
 
-pub fn index(x: u32) -> usize
-    ensures { result ≡ x }
-{
-    x as usize
-}
+mod valid;
 
 fn length_at(v: &[u32; 40], i: usize) -> Length
     requires { i < 40 }
     ensures { result.0 ≡ get_or v.now i 0 }
 {
-    Length::of_millimetres(widen(v[i]))
+    Length::of_millimetres(v[i] as u64)
 }
 
 fn force_at(v: &[u32; 40], i: usize) -> Force
     requires { i < 40 }
     ensures { result.0 ≡ get_or v.now i 0 }
 {
-    Force::of_newtons(widen(v[i]))
+    Force::of_newtons(v[i] as u64)
 }
 
 fn group_at(v: &[u32; 40], i: usize) -> Group
@@ -44,17 +41,20 @@ fn group_at(v: &[u32; 40], i: usize) -> Group
     }
 }
 
-// Four groups from slot i on.
-fn groups_at(v: &[u32; 40], i: usize) -> [Group; 4]
-    requires { i < 30 }
-    ensures { result ≡ (group v.now i ∷ group v.now (i + 2) ∷ group v.now (i + 4) ∷ group v.now (i + 6) ∷ []) }
+// The groups of the list whose count stands in slot k.
+fn groups_at(v: &[u32; 40], k: usize) -> Groups
+    requires { k < 30 }
+    ensures { groups_in result ≡ groups_at v.now k }
 {
-    [
-        group_at(v, i),
-        group_at(v, i + 2),
-        group_at(v, i + 4),
-        group_at(v, i + 6),
-    ]
+    Groups {
+        list: [
+            group_at(v, k + 1),
+            group_at(v, k + 3),
+            group_at(v, k + 5),
+            group_at(v, k + 7),
+        ],
+        count: v[k] as usize,
+    }
 }
 
 // What a beam is loaded by: a is read where it is under a point load.
@@ -69,6 +69,7 @@ fn load_at(pointLoad: bool, v: &[u32; 40]) -> Load
 }
 
 // The slots as a beam's fields.
+#[tactic(auto, unfolding(crate::specs::Layout::beam_at))]
 pub fn beam_of(pointLoad: bool, v: &[u32; 40]) -> Beam
     ensures { beam_of result ≡ beam_at pointLoad v.now }
 {
@@ -81,18 +82,16 @@ pub fn beam_of(pointLoad: bool, v: &[u32; 40]) -> Beam
         ac: length_at(v, 5),
         concrete: v[6],
         steel: v[7],
-        tensions: index(v[TENSION_COUNT]),
-        tension: groups_at(v, TENSION_GROUPS),
-        compressions: index(v[COMPRESSION_COUNT]),
-        compression: groups_at(v, COMPRESSION_GROUPS),
+        tension: groups_at(v, TENSION_COUNT),
+        compression: groups_at(v, COMPRESSION_COUNT),
         link: v[BEAM_LINKS],
         legs: v[27],
         s: length_at(v, 28),
         linkSteel: v[29],
         c: length_at(v, 30),
         l0: length_at(v, 31),
-        M: widen(v[32]),
-        Mq: widen(v[33]),
+        M: v[32] as u64,
+        Mq: v[33] as u64,
         v: force_at(v, 34),
         environment: v[35],
         strict: v[36],
@@ -101,6 +100,7 @@ pub fn beam_of(pointLoad: bool, v: &[u32; 40]) -> Beam
 }
 
 // The slots as a column's fields.
+#[tactic(auto, unfolding(crate::specs::Layout::column_at))]
 pub fn column_of(v: &[u32; 40]) -> Column
     ensures { column_of result ≡ column_at v.now }
 {
@@ -109,8 +109,7 @@ pub fn column_of(v: &[u32; 40]) -> Column
         h: length_at(v, 1),
         concrete: v[2],
         steel: v[3],
-        count: index(v[COLUMN_COUNT]),
-        groups: groups_at(v, COLUMN_GROUPS),
+        groups: groups_at(v, COLUMN_COUNT),
         link: v[COLUMN_LINKS],
         s: length_at(v, 14),
         l0: length_at(v, 15),
@@ -119,6 +118,7 @@ pub fn column_of(v: &[u32; 40]) -> Column
 }
 
 // The slots as a mesh's fields.
+#[tactic(auto, unfolding(crate::specs::Layout::mesh_at))]
 pub fn mesh_of(v: &[u32; 40]) -> Mesh
     ensures { mesh_of result ≡ mesh_at v.now }
 {

@@ -1,5 +1,5 @@
 -- A kind's table of fields, and its fields by slot.
-use Prim.Native.Nat.{ℕ, zero, suc, ◌+◌, ◌-◌, ◌≤◌, ◌<◌}
+use Prim.Native.Nat.{ℕ, ◌+◌, ◌-◌, ◌≤◌, ◌<◌}
 use mathlib.Core.Path.{◌≡◌, refl, sym, ap, ◌∙◌}
 use mathlib.Core.Bool.{Bool, true, false}
 use mathlib.Core.List.{List, ◌∷◌, ◌++◌}
@@ -25,10 +25,6 @@ fields_fit Mesh = omega arith
 
 -- ---- A beam: kind 4's table begins with kind 1's.
 
-pub beam_within : (pointLoad : Bool) (i : ℕ) → i < length (beam_fields_of pointLoad) → i < length (beam_fields_of true)
-beam_within false i h = omega arith
-beam_within true i h = h
-
 pub beam_field_same : (pointLoad : Bool) (i : ℕ) → i < length (beam_fields_of pointLoad) → get_or (beam_fields_of true) i Grade ≡ get_or (beam_fields_of pointLoad) i Grade
 beam_field_same false i h = get_or-append beam_fields (load_fields true) Grade i h
 beam_field_same true i h = refl
@@ -39,21 +35,6 @@ beam_end false end e = omega arith
 beam_end true end e = omega arith
 
 -- ---- A field by its slot.
-
--- i is none of the n places from a on, beside what T says
-abbrev pub NoneFrom : Type 0 → ℕ → ℕ → ℕ → Type 0
-NoneFrom T a zero i = T
-NoneFrom T a (suc n) i = NoneFrom T a n i × (i ≡ a + n → ⊥)
-
-pub none_from : (T : Type 0) (a n i : ℕ) → a ≤ i → NoneFrom T a n i → a + n ≤ i
-none_from T a zero i l h = omega arith
-none_from T a (suc n) i l h = omega (arith, none_from T a n i l h.0, h.1)
-
-pub last_place : (n i : ℕ) → n ≤ i → i < suc n → i ≡ n
-last_place n i l h = omega arith
-
-pub place_within : (a n i : ℕ) → a ≤ i → i < a + n → i - a < n
-place_within a n i l h = omega arith
 
 pub drop_one : (fs : List Domain) (i : ℕ) → i < length fs → drop i fs ≡ get_or fs i Grade ∷ drop (i + 1) fs
 drop_one fs i h = drop-cons fs i Grade h ∙ ap (λ (n : ℕ). get_or fs i Grade ∷ drop n fs) (sym (add-one i))

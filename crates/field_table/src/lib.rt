@@ -44,15 +44,11 @@ pub fn group_field(k: u32, j: usize) -> Domain
     requires { j < 8 }
     ensures { result ≡ get_or (groups k) j Domain.Grade }
 {
-    match j {
-        0 => Domain::GroupDiameter(k, 0),
-        1 => Domain::GroupBars(k, 0),
-        2 => Domain::GroupDiameter(k, 1),
-        3 => Domain::GroupBars(k, 1),
-        4 => Domain::GroupDiameter(k, 2),
-        5 => Domain::GroupBars(k, 2),
-        6 => Domain::GroupDiameter(k, 3),
-        _ => Domain::GroupBars(k, 3),
+    let place = j as u32 / 2;
+    if j % 2 == 0 {
+        Domain::GroupDiameter(k, place)
+    } else {
+        Domain::GroupBars(k, place)
     }
 }
 
@@ -129,6 +125,7 @@ pub fn mesh_field(i: usize) -> Domain
 }
 
 // Question 6.
+#[tactic(auto, unfolding(crate::specs::Fields::known))]
 pub fn is_known(number: u32) -> bool
     ensures { result ≡ known number }
 {
@@ -136,6 +133,7 @@ pub fn is_known(number: u32) -> bool
 }
 
 // The kind of a number that question 6 lets through.
+#[tactic(auto, unfolding(crate::specs::Fields::kind_of))]
 pub fn kind_of(number: u32) -> MemberKind
     ensures { result ≡ kind_of number }
 {
@@ -159,6 +157,7 @@ pub fn beam_field_count(pointLoad: bool) -> usize
 }
 
 // The number of fields of a kind.
+#[tactic(auto, unfolding(crate::specs::Fields::fields_of))]
 pub fn field_count(kind: MemberKind) -> usize
     ensures { result ≡ length (fields_of kind) }
 {
@@ -170,6 +169,7 @@ pub fn field_count(kind: MemberKind) -> usize
 }
 
 // Field i of a kind.
+#[tactic(auto, unfolding(crate::specs::Fields::fields_of))]
 pub fn field_of(kind: MemberKind, i: usize) -> Domain
     requires { i < length (fields_of kind) }
     ensures { result ≡ get_or (fields_of kind) i Domain.Grade }

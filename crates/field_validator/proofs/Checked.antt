@@ -1,39 +1,30 @@
--- A number and the question put to it, and what a run of fields says.
+-- A number and the question put to it.
+use Rattle.std.specs.Prelude.{Err, Ok}
 use Prim.Native.Nat.{ℕ}
-use mathlib.Core.Path.{◌≡◌, refl, sym, ap, ◌∙◌}
-use mathlib.Core.Bool.{Bool, true, false}
+use mathlib.Core.Path.{◌≡◌, refl, ap}
+use mathlib.Core.Bool.{Bool, true}
 use mathlib.Core.List.{List}
 use native.Mathlib.Omega.{arith}
 use Rattle.quantity.proofs.Choice.{if_case}
 use Rattle.question.specs.declared.Question.{Question}
-use Rattle.varint.specs.declared.Number.{Number}
-use Rattle.varint.specs.declared.Number.TheVariants.{Value, Refused}
+use Rattle.varint.specs.Varint.{Number}
 use Rattle.varint.specs.Varint.{number_at}
 use Rattle.question.specs.Reading.{Reading, got, no, and_then, ask}
-use Rattle.field_validator.specs.Placed.{Placed, placed, of_number}
+use Rattle.varint.specs.Placed.{Placed, placed, of_number}
 use Rattle.field_validator.specs.FieldsAt.{checked}
-use Rattle.question.specs.declared.Verdict.TheVariants as verdicts
-use Rattle.field_validator.specs.declared.FieldsRead.{FieldsRead}
-use Rattle.field_validator.specs.FieldsResult.{fields_read_of}
 
 -- a number passes its question, or is refused
 pub on_checked : (P : Reading Question (Placed ℕ) → Type 0) (q : Question) (test : ℕ → Bool) (s : List ℕ) (p : ℕ)
-    → ((x next : ℕ) → number_at s p ≡ Value x next → test x ≡ true → P (got (placed x next))) → ((r : Question) → P (no r)) → P (checked q test s p)
+    → ((x next : ℕ) → number_at s p ≡ Ok (x, next) → test x ≡ true → P (got (placed x next))) → ((r : Question) → P (no r)) → P (checked q test s p)
 on_checked P q test s p passes refused = cases (number_at s p) refl
   where
     cases : (n : Number) → number_at s p ≡ n → P (and_then (of_number n) (λ x. ask q (test x.value) (got x)))
-    cases (Value x next) e = if_case P (test x) _ _ (passes x next e) (λ _. refused q)
-    cases (Refused r) e = refused r
+    cases (Ok (x, next)) e = if_case P (test x) _ _ (passes x next e) (λ _. refused q)
+    cases (Err r) e = refused r
 
 module _ (q : Question) (test : ℕ → Bool) (s : List ℕ) (p : ℕ) where
-  pub number_refused : (r : Question) → number_at s p ≡ Refused r → checked q test s p ≡ no r
-  number_refused r e = rw e
-
-  pub number_passes : (x next : ℕ) → number_at s p ≡ Value x next → test x ≡ true → checked q test s p ≡ got (placed x next)
+  pub number_passes : (x next : ℕ) → number_at s p ≡ Ok (x, next) → test x ≡ true → checked q test s p ≡ got (placed x next)
   number_passes x next e t = rw (e, t)
-
-  pub number_fails : (x next : ℕ) → number_at s p ≡ Value x next → test x ≡ false → checked q test s p ≡ no q
-  number_fails x next e t = rw (e, t)
 
 -- a number that was taken passed its question
 pub passes : (q : Question) (test : ℕ → Bool) (s : List ℕ) (p x next : ℕ) → checked q test s p ≡ got (placed x next) → test x ≡ true
@@ -43,11 +34,3 @@ passes q test s p x next =
     let same : placed y after ≡ placed x next = cc in
     rw (← ap (λ (r : Placed ℕ). r.value) same) t)
     (λ r e. absurd (let z : ◌≡◌ {A = ℕ} 0 1 = cc in omega arith))
-
-pub fields_got : (r : FieldsRead) (o : Reading Question (Placed (List ℕ))) → r ≡ fields_read_of o → r.verdict ≡ verdicts.Accepted → o ≡ got (placed r.slots.v r.next)
-fields_got r (got f) e a = rw e
-fields_got r (no q) e a = absurd (let z : ◌≡◌ {A = ℕ} 0 1 = cc in omega arith)
-
-pub fields_no : (r : FieldsRead) (o : Reading Question (Placed (List ℕ))) (q : Question) → r ≡ fields_read_of o → r.verdict ≡ verdicts.Refused q → o ≡ no q
-fields_no r (got f) q e a = absurd (let z : ◌≡◌ {A = ℕ} 0 1 = cc in omega arith)
-fields_no r (no p) q e a = let same : verdicts.Refused p ≡ verdicts.Refused q = sym (ap (λ (x : FieldsRead). x.verdict) e) ∙ a in cc

@@ -1,4 +1,5 @@
 -- Fields that were read pass question 7 as they stand in their slots: a count is read before the groups that it names.
+use Rattle.std.specs.Prelude.{Ok}
 use Prim.Native.Nat.{ℕ, ◌+◌, ◌≤◌, ◌<◌}
 use mathlib.Core.Path.{◌≡◌, refl, sym, ap, ◌∙◌}
 use mathlib.Core.Bool.{Bool, true, false, ◌&&◌}
@@ -9,7 +10,6 @@ use lib.Seq.{get_or-set_same, get_or-set_other}
 use Rattle.quantity.proofs.Choice.{if_case, both_true}
 use Rattle.question.specs.declared.Question.{Question}
 use Rattle.question.specs.declared.Question.TheVariants.{Field}
-use Rattle.varint.specs.declared.Number.TheVariants.{Value}
 use Rattle.varint.specs.Varint.{number_at}
 use Rattle.field_domain.specs.declared.Domain.{Domain}
 use Rattle.field_domain.specs.Domain.{presence, is_present, holds, field_holds}
@@ -20,7 +20,7 @@ use Rattle.field_table.specs.Fields.{fields_of}
 use Rattle.field_check.specs.FieldCheck.{fields_hold}
 use Rattle.field_table.proofs.Tables.{fields_fit}
 use Rattle.question.specs.Reading.{Reading, got, no, and_then}
-use Rattle.field_validator.specs.Placed.{Placed, placed}
+use Rattle.varint.specs.Placed.{Placed, placed}
 use Rattle.field_validator.specs.FieldsAt.{empty, field, fields}
 use Rattle.field_validator.proofs.Checked.{on_checked}
 
@@ -29,7 +29,7 @@ use Rattle.field_validator.proofs.Checked.{on_checked}
 -- a field is not there, is stored, or refused
 pub on_field : (P : Reading Question (Placed (List ℕ)) → Type 0) (d : Domain) (s : List ℕ) (p i : ℕ) (v : List ℕ)
     → (is_present d v ≡ false → P (got (placed v p)))
-    → ((x next : ℕ) → is_present d v ≡ true → number_at s p ≡ Value x next → holds d x ≡ true → P (got (placed (set v i x) next)))
+    → ((x next : ℕ) → is_present d v ≡ true → number_at s p ≡ Ok (x, next) → holds d x ≡ true → P (got (placed (set v i x) next)))
     → ((q : Question) → P (no q)) → P (field d s p i v)
 unfolding field
 on_field P d s p i v absent stored refused =

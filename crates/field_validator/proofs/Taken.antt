@@ -7,11 +7,10 @@ use native.Mathlib.Omega.{arith}
 use lib.ListN.{length, get_or, set, take, drop, length-set}
 use lib.Seq.{get_or-set_same, get_or-set_other}
 use borrow.Author.Tests.{lt-ltb, le-ltb}
-use Rattle.std.specs.Prelude.{if◌then◌else◌}
+use Rattle.std.specs.Prelude.{if◌then◌else◌, Err, Ok, Result}
 use Rattle.quantity.proofs.Choice.{if_case, both_true}
 use Rattle.question.specs.declared.Question.{Question}
-use Rattle.varint.specs.declared.Number.{Number}
-use Rattle.varint.specs.declared.Number.TheVariants.{Value, Refused}
+use Rattle.varint.specs.Varint.{Number}
 use Rattle.varint.specs.Varint.{number_at}
 use Rattle.field_domain.specs.declared.Domain.{Domain}
 use Rattle.field_domain.specs.declared.Domain.TheVariants.{Range, GroupDiameter, GroupBars}
@@ -21,11 +20,12 @@ use Rattle.field_table.specs.declared.MemberKind.{MemberKind}
 use Rattle.field_table.specs.Fields.{tension_count, compression_count, beam_links, column_count, column_links, groups, beam_fields_of, column_fields, mesh_fields, fields_of}
 use Rattle.field_check.specs.FieldCheck.{fields_hold}
 use Rattle.field_table.proofs.Tables.{fields_fit}
-use Rattle.field_validator.specs.declared.FieldsEnd.{FieldsEnd}
-use Rattle.field_validator.specs.declared.FieldsEnd.TheVariants.{To}
-use Rattle.field_validator.specs.declared.FieldsEnd.TheVariants as ends
+use Rattle.field_validator.specs.Taken.{FieldsEnd}
 use Rattle.question.specs.Reading.{Reading, got, no, and_then}
-use Rattle.field_validator.specs.Placed.{Placed, placed}
+use Rattle.varint.specs.Placed.{Placed, placed, of_number}
+use Rattle.varint.specs.Moved.{reading_of, Moved}
+use Rattle.varint.specs.declared.Cursor.{Cursor}
+use Rattle.varint.proofs.Moved.{moved_refused, moved_on}
 use Rattle.field_validator.specs.FieldsAt.{empty, field, fields}
 use Rattle.field_validator.specs.Taken.{Stopped, stopped, stored_by, stored, taken_row, taken, fields_end_of}
 use Rattle.field_validator.proofs.Held.{on_field, ordered, in_order}
@@ -34,18 +34,18 @@ use Rattle.field_validator.proofs.Held.{on_field, ordered, in_order}
 
 -- a number is stored, or refused
 on_stored : (P : Reading Stopped (Placed (List ℕ)) → Type 0) (s : List ℕ) (p i : ℕ) (v : List ℕ)
-    → ((x next : ℕ) → number_at s p ≡ Value x next → P (got (placed (set v i x) next))) → ((q : Question) → P (no (stopped q v))) → P (stored s p i v)
+    → ((x next : ℕ) → number_at s p ≡ Ok (x, next) → P (got (placed (set v i x) next))) → ((q : Question) → P (no (stopped q v))) → P (stored s p i v)
 unfolding stored
 on_stored P s p i v kept refused = cases (number_at s p) refl
   where
     cases : (n : Number) → number_at s p ≡ n → P (stored_by n i v)
-    cases (Value x next) e = kept x next e
-    cases (Refused q) e = refused q
+    cases (Ok (x, next)) e = kept x next e
+    cases (Err q) e = refused q
 
 -- a field is not there, is stored, or its number is refused
 pub on_taken : (P : Reading Stopped (Placed (List ℕ)) → Type 0) (d : Domain) (s : List ℕ) (p i : ℕ) (v : List ℕ)
     → (is_present d v ≡ false → P (got (placed v p)))
-    → ((x next : ℕ) → is_present d v ≡ true → number_at s p ≡ Value x next → P (got (placed (set v i x) next)))
+    → ((x next : ℕ) → is_present d v ≡ true → number_at s p ≡ Ok (x, next) → P (got (placed (set v i x) next)))
     → ((q : Question) → P (no (stopped q v))) → P (if is_present d v then stored s p i v else got (placed v p))
 on_taken P d s p i v absent kept refused =
     if_case P (is_present d v) _ _ (λ a. on_stored P s p i v (λ x next n. kept x next a n) refused) absent
@@ -121,24 +121,35 @@ module _ (s : List ℕ) (p end i : ℕ) (v : List ℕ) where
     one_more : end - i ≡ suc (end - (i + 1))
     one_more = omega arith
 
-    pub row_refused : (q : Question) → number_at s p ≡ Refused q → taken_row (end - i) s p i v ≡ no (stopped q v)
-    unfolding taken_row stored
-    row_refused q e = rw (one_more, e)
+    module _ (r : Result ℕ Question) (next : ℕ) (e : reading_of r next ≡ of_number (number_at s p)) where
+      pub row_refused : (q : Question) → r ≡ Err q → taken_row (end - i) s p i v ≡ no (stopped q v)
+      unfolding taken_row stored
+      row_refused q f = rw one_more (refused (number_at s p) (rw f at e))
+        where
+          refused : (n : Number) → no q ≡ of_number n → and_then (stored_by n i v) (λ r. taken_row (end - (i + 1)) s r.next (i + 1) r.value) ≡ no (stopped q v)
+          refused (Ok x) g = absurd (let z : ◌≡◌ {A = ℕ} 0 1 = cc in omega arith)
+          refused (Err k) g = cc
 
-    pub row_stored : (x next : ℕ) → number_at s p ≡ Value x next → taken_row (end - i) s p i v ≡ taken_row (end - (i + 1)) s next (i + 1) (set v i x)
-    unfolding taken_row stored
-    row_stored x next e = rw (one_more, e)
+      pub row_stored : (x : ℕ) → r ≡ Ok x → taken_row (end - i) s p i v ≡ taken_row (end - (i + 1)) s next (i + 1) (set v i x)
+      unfolding taken_row stored
+      row_stored x f = rw one_more (kept_on (number_at s p) (rw f at e))
+        where
+          kept_on : (n : Number) → got (placed x next) ≡ of_number n → and_then (stored_by n i v) (λ r. taken_row (end - (i + 1)) s r.next (i + 1) r.value) ≡ taken_row (end - (i + 1)) s next (i + 1) (set v i x)
+          kept_on (Ok (y, k)) g = let same : placed x next ≡ placed y k = cc in rw (ap (λ (r : Placed ℕ). r.value) same, ap (λ (r : Placed ℕ). r.next) same)
+          kept_on (Err k) g = absurd (let z : ◌≡◌ {A = ℕ} 0 1 = cc in omega arith)
 
 -- a row that was refused or taken, and what follows it
-module _ (n : FieldsEnd) (v : List ℕ) (o : Reading Stopped (Placed (List ℕ))) (was : fields_end_of n v ≡ o) (f : Placed (List ℕ) → Reading Stopped (Placed (List ℕ))) where
-  pub then_refused : (q : Question) → n ≡ ends.Refused q → and_then o f ≡ no (stopped q v)
-  then_refused q e = rw (← was, e)
+module _ (old mid : Cursor) (r : FieldsEnd) (v : List ℕ) (o : Reading Stopped (Placed (List ℕ))) (m : Moved old o (fields_end_of r v) mid)
+    (f : List ℕ → Placed (List ℕ) → Reading Stopped (Placed (List ℕ))) where
+  pub then_refused : (q : Question) → r ≡ Err q → (t : FieldsEnd) → t ≡ Err q → Moved old (and_then o (f old.src.now)) (fields_end_of t v) mid
+  then_refused q e t g = moved_refused old mid _ o m f (stopped q v) (rw e) _ (rw g)
 
-  pub then_on : (next : ℕ) → n ≡ To next → and_then o f ≡ f (placed v next)
-  then_on next e = rw (← was, e)
+  pub then_on : r ≡ (Ok tt) → (new : Cursor) (t : FieldsEnd) (w : List ℕ) → Moved mid (f mid.src.now (placed v mid.at)) (fields_end_of t w) new
+      → Moved old (and_then o (f old.src.now)) (fields_end_of t w) new
+  then_on e new t w n = moved_on old mid _ o m f v (rw e) new _ n
 
-pub end_got : (n : FieldsEnd) (v : List ℕ) (o : Reading Stopped (Placed (List ℕ))) → fields_end_of n v ≡ o → (next : ℕ) → n ≡ To next → o ≡ got (placed v next)
-end_got n v o was next e = rw (← was, e)
+pub end_got : (r : FieldsEnd) (v : List ℕ) (p : ℕ) (o : Reading Stopped (Placed (List ℕ))) → reading_of (fields_end_of r v) p ≡ o → r ≡ (Ok tt) → o ≡ got (placed v p)
+end_got r v p o was e = rw (← was, e)
 
 -- ---- Rows.
 
@@ -251,10 +262,10 @@ and_same (got a) f g e = e a
 and_same (no q) f g e = refl
 
 module _ (s : List ℕ) where
-  abbrev row_from : ℕ → ℕ → Placed (List ℕ) → Reading Stopped (Placed (List ℕ))
+  abbrev pub row_from : ℕ → ℕ → Placed (List ℕ) → Reading Stopped (Placed (List ℕ))
   row_from m i r = taken_row m s r.next i r.value
 
-  abbrev list_from : ℕ → Placed (List ℕ) → Reading Stopped (Placed (List ℕ))
+  abbrev pub list_from : ℕ → Placed (List ℕ) → Reading Stopped (Placed (List ℕ))
   list_from k r = taken (groups k) s r.next (k + 1) r.value
 
   -- fields that are there, then others
@@ -262,9 +273,21 @@ module _ (s : List ℕ) where
       → taken (xs ++ ys) s p i v ≡ and_then (taken_row (length xs) s p i v) (λ r. taken ys s r.next (i + length xs) r.value)
   plain_then xs ys e p i v = taken_append xs ys s p i v ∙ rw (row_plain xs e s p i v)
 
+  -- the fields of a beam from each of its rows and lists on: the loads, the count of the compression bars, the list of the tension bars
+  abbrev pub from_links : Bool → Placed (List ℕ) → Reading Stopped (Placed (List ℕ))
+  from_links pointLoad d = taken (drop beam_links (beam_fields_of pointLoad)) s d.next beam_links d.value
+
+  abbrev pub from_compression : Bool → Placed (List ℕ) → Reading Stopped (Placed (List ℕ))
+  from_compression pointLoad c = and_then (list_from compression_count c) (from_links pointLoad)
+
+  abbrev pub from_count : Bool → Placed (List ℕ) → Reading Stopped (Placed (List ℕ))
+  from_count pointLoad b = and_then (row_from 1 compression_count b) (from_compression pointLoad)
+
+  abbrev pub from_tension : Bool → Placed (List ℕ) → Reading Stopped (Placed (List ℕ))
+  from_tension pointLoad a = and_then (list_from tension_count a) (from_count pointLoad)
+
   pub beam_rows : (pointLoad : Bool) (p : ℕ) (v : List ℕ)
-      → taken (beam_fields_of pointLoad) s p 0 v
-      ≡ and_then (taken_row 9 s p 0 v) (λ a. and_then (list_from tension_count a) (λ b. and_then (row_from 1 compression_count b) (λ c. and_then (list_from compression_count c) (λ d. taken (drop beam_links (beam_fields_of pointLoad)) s d.next beam_links d.value))))
+      → taken (beam_fields_of pointLoad) s p 0 v ≡ and_then (taken_row 9 s p 0 v) (from_tension pointLoad)
   unfolding all_plain
   beam_rows pointLoad p v =
       let fs = beam_fields_of pointLoad in
@@ -287,7 +310,11 @@ module _ (s : List ℕ) where
       let n : end - beam_links ≡ length (drop beam_links (beam_fields_of pointLoad)) = omega arith in
       rw n (row_plain (drop beam_links (beam_fields_of pointLoad)) (last_plain pointLoad) s p beam_links v)
 
-  pub column_rows : (p : ℕ) (v : List ℕ) → taken column_fields s p 0 v ≡ and_then (taken_row 5 s p 0 v) (λ a. and_then (list_from column_count a) (row_from 4 column_links))
+  -- the fields of a column from its list on
+  abbrev pub from_groups : Placed (List ℕ) → Reading Stopped (Placed (List ℕ))
+  from_groups a = and_then (list_from column_count a) (row_from 4 column_links)
+
+  pub column_rows : (p : ℕ) (v : List ℕ) → taken column_fields s p 0 v ≡ and_then (taken_row 5 s p 0 v) from_groups
   unfolding all_plain
   column_rows p v =
       plain_then (take 5 column_fields) (drop 5 column_fields) refl p 0 v

@@ -1,12 +1,16 @@
 -- Fields read one by one, each held to its domain: questions 2, 3 and 7 (document 01, "Schedule bytes").
-use Rattle.std.specs.Prelude.{ℕ, ◌+◌, Bool, List, [], ◌∷◌, set, replicate, if◌then◌else◌}
+use Rattle.std.specs.Prelude.{◌≡◌, ℕ, ◌+◌, ◌^◌, ◌<◌, Bool, List, [], ◌∷◌, set, replicate, if◌then◌else◌}
 use Rattle.question.specs.declared.Question.{Question}
 use Rattle.question.specs.declared.Question.TheVariants.{Field}
 use Rattle.varint.specs.Varint.{number_at}
 use Rattle.field_domain.specs.declared.Domain.{Domain}
 use Rattle.field_domain.specs.Domain.{holds, is_present}
 use Rattle.question.specs.Reading.{Reading, got, and_then, ask}
-use Rattle.field_validator.specs.Placed.{Placed, placed, of_number}
+use Rattle.varint.specs.Placed.{Placed, placed, of_number}
+
+-- a test of which this is known after each call says the same as `asked`
+abbrev pub Tests : (ℕ → Bool → Type 0) → (ℕ → Bool) → Type 0
+Tests known asked = (x : ℕ) (b : Bool) → x < 2 ^ 32 → known x b → b ≡ asked x
 
 -- the number at p: 2 and 3, then question q
 abbrev pub checked : Question → (ℕ → Bool) → List ℕ → ℕ → Reading Question (Placed ℕ)

@@ -1,13 +1,8 @@
 -- What the code yields for a reading of fields.
-use Rattle.std.specs.Prelude.{ℕ, List}
+use Rattle.std.specs.Prelude.{ℕ, List, Err, Ok, Result}
 use Rattle.question.specs.declared.Question.{Question}
-use Rattle.field_validator.specs.declared.FieldsRead.{FieldsRead}
-use Rattle.question.specs.declared.Verdict.TheVariants.{Accepted, Refused}
-use Rattle.question.specs.Reading.{Reading, got, no}
-use Rattle.field_validator.specs.Placed.{Placed}
-use Rattle.field_validator.specs.FieldsAt.{empty}
+use Rattle.field_check.specs.declared.Slots.{Slots}
 
--- a refusal has the place 0 and empty slots
-abbrev pub fields_read_of : Reading Question (Placed (List ℕ)) → FieldsRead
-fields_read_of (got f) = record { verdict = Accepted; next = f.next; slots = record { v = f.value } }
-fields_read_of (no q) = record { verdict = Refused q; next = 0; slots = record { v = empty } }
+abbrev pub fields_read_of : Result Slots Question → Result (List ℕ) Question
+fields_read_of (Ok slots) = Ok slots.v
+fields_read_of (Err q) = Err q

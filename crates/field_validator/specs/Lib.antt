@@ -1,4 +1,3 @@
-pub mod Placed
 pub mod FieldsAt
 pub mod Taken
 pub mod FieldsResult

@@ -1,13 +1,15 @@
-// The validator of a member's fields: one by one, each held to its domain, or all at once.
+// The validator of a member's fields: one by one, each held to its domain, or all at once. A cursor stands before the first, and after the
+// last where no question was answered no.
+// The functions that take numbers are inlined, so that the reader, which knows that nothing is refused, has code without what only a
+// refusal needs.
 #![tactic(auto)]
 
-ghost use Rattle.std.specs.Prelude.{◌≡◌, ◌+◌, ◌-◌, ◌≤◌, min, drop};
+ghost use Rattle.std.specs.Prelude.{◌+◌, ◌-◌, ◌≤◌, ℕ, Bool};
 ghost use Rattle.field_domain.specs.Domain.{holds};
-ghost use Rattle.field_table.specs.Fields.{beam_links, groups, beam_fields_of, column_fields, fields_of};
-ghost use Rattle.question.specs.Reading.{no};
-ghost use Rattle.field_validator.specs.Placed.{of_number};
+ghost use Rattle.field_table.specs.Fields.{groups, beam_fields_of, column_fields, fields_of};
+ghost use Rattle.varint.specs.Moved.{Moved};
 ghost use Rattle.field_validator.specs.Taken.{taken_row, taken, fields_end_of};
-ghost use Rattle.field_validator.specs.FieldsAt.{empty, checked, fields};
+ghost use Rattle.field_validator.specs.FieldsAt.{empty, Tests, checked, fields};
 ghost use Rattle.field_validator.specs.FieldsResult.{fields_read_of};
 
 use field_check::Slots;
@@ -17,180 +19,101 @@ use field_table::{
     COMPRESSION_GROUPS, MESH_FIELDS, MemberKind, TENSION_COUNT, TENSION_GROUPS, beam_field_count,
     field_count, field_of,
 };
-use question::{Question, Verdict};
-use varint::{Number, number_at};
+use question::Question;
+use varint::Cursor;
 
-// Fields validated so far: refused, or the slots and the place after the last field.
-#[derive(Clone, Copy)]
-pub struct FieldsRead {
-    pub verdict: Verdict,
-    pub next: usize,
-    pub slots: Slots,
-}
-
-// Where numbers taken into slots end: the place after them, or the refusal of one.
-#[derive(Clone, Copy)]
-pub enum FieldsEnd {
-    To(usize),
-    Refused(Question),
-}
-
-fn no_slots() -> Slots
-    ensures { result.v ≡ empty }
+// The next number, and question q put to it: the test that it passes.
+pub fn number_that<F: Fn(u32) -> bool>(
+    input: &mut Cursor,
+    q: Question,
+    test: F,
+) -> Result<u32, Question>
+    requires { F.IsAlwaysCallable test }
+    ensures { (asked : ℕ → Bool) → Tests (F.post test) asked → Moved input.old (checked q asked input.old.src.now input.old.at) result input.new }
 {
-    Slots { v: [0; 40] }
+    let x = input.number()?;
+    if test(x) { Ok(x) } else { Err(q) }
 }
 
-fn refused_fields(q: Question) -> FieldsRead
-    ensures { result ≡ fields_read_of (no q) }
+// The next number as a field: questions 2, 3 and 7.
+fn validate_field(input: &mut Cursor, d: Domain) -> Result<u32, Question>
+    ensures { Moved input.old (checked Question.Field (holds d) input.old.src.now input.old.at) result input.new }
 {
-    FieldsRead {
-        verdict: Verdict::Refused(q),
-        next: 0,
-        slots: no_slots(),
-    }
+    number_that(input, Question::Field, |x| domain_holds(d, x))
 }
 
-// The field at `at`: questions 2, 3 and 7.
-fn validate_field(src: &[u8], at: usize, d: Domain) -> Number
-    ensures { of_number result ≡ checked Question.Field (holds d) src.now at }
+// The fields of a kind, in slots.
+#[tactic(auto, using(field_table::proofs::Tables::fields_fit, crate::proofs::Fields::fields_read, crate::proofs::Fields::field_absent, crate::proofs::Fields::field_refused, crate::proofs::Fields::field_stored))]
+pub fn validate_fields(input: &mut Cursor, kind: MemberKind) -> Result<Slots, Question>
+    ensures { Moved input.old (fields (fields_of kind) input.old.src.now input.old.at 0 empty) (fields_read_of result) input.new }
 {
-    match number_at(src, at) {
-        Number::Refused(q) => Number::Refused(q),
-        Number::Value(x, next) => {
-            if domain_holds(d, x) {
-                Number::Value(x, next)
-            } else {
-                Number::Refused(Question::Field)
-            }
-        }
-    }
-}
-
-// The fields of a kind, from `at` on.
-pub fn validate_fields(src: &[u8], at: usize, kind: MemberKind) -> FieldsRead
-    ensures { result ≡ fields_read_of (fields (fields_of kind) src.now at 0 empty) }
-{
-    let n = field_count(kind);
-    let mut v = [0u32; 40];
-    let mut p = at;
-    let mut i: usize = 0;
-    while i < n {
+    let mut v = [0; 40];
+    for i in 0..field_count(kind) {
         let d = field_of(kind, i);
         if field_present(d, &v) {
-            match validate_field(src, p, d) {
-                Number::Refused(q) => return refused_fields(q),
-                Number::Value(x, next) => {
-                    v[i] = x;
-                    p = next;
-                    i += 1;
-                }
-            }
-        } else {
-            i += 1;
+            v[i] = validate_field(input, d)?;
         }
     }
-    let slots = Slots { v };
-    FieldsRead {
-        verdict: Verdict::Accepted,
-        next: p,
-        slots,
-    }
+    Ok(Slots { v })
 }
 
-// The numbers from `at` on into the slots from `from` up to `end`: the place after them.
-fn take_row(src: &[u8], at: usize, v: &mut [u32; 40], from: usize, end: usize) -> FieldsEnd
+// The next numbers into the slots from `from` up to `end`.
+#[tactic(auto, using(crate::proofs::Taken::row_ended, crate::proofs::Taken::row_refused, crate::proofs::Taken::row_stored))]
+#[inline(always)]
+fn take_row(input: &mut Cursor, v: &mut [u32; 40], from: usize, end: usize) -> Result<(), Question>
     requires { (from ≤ end) × (end ≤ 40) }
-    ensures { fields_end_of result v.new ≡ taken_row (end - from) src.now at from v.old }
+    ensures { Moved input.old (taken_row (end - from) input.old.src.now input.old.at from v.old) (fields_end_of result v.new) input.new }
 {
-    let mut p = at;
-    let mut i = from;
-    while i < end {
-        match number_at(src, p) {
-            Number::Refused(q) => return FieldsEnd::Refused(q),
-            Number::Value(x, next) => {
-                v[i] = x;
-                p = next;
-                i += 1;
-            }
-        }
+    for i in from..end {
+        v[i] = input.number()?;
     }
-    FieldsEnd::To(p)
-}
-
-// The number of groups that a count names: a list has four at most.
-pub fn at_most_four(count: u32) -> usize
-    ensures { result ≡ min count 4 }
-{
-    if count < 4 { count as usize } else { 4 }
+    Ok(())
 }
 
 // The groups of a list whose count stands in slot k.
-fn take_list(src: &[u8], at: usize, v: &mut [u32; 40], k: usize) -> FieldsEnd
+#[tactic(auto, using(crate::proofs::Taken::list_taken))]
+#[inline(always)]
+fn take_list(input: &mut Cursor, v: &mut [u32; 40], k: usize) -> Result<(), Question>
     requires { k ≤ 31 }
-    ensures { fields_end_of result v.new ≡ taken (groups k) src.now at (k + 1) v.old }
+    ensures { Moved input.old (taken (groups k) input.old.src.now input.old.at (k + 1) v.old) (fields_end_of result v.new) input.new }
 {
-    let n = at_most_four(v[k]);
-    take_row(src, at, v, k + 1, k + 1 + 2 * n)
-}
-
-// What follows a beam's lists: links, cover, span, loads, environment, strict, and a under a point load.
-fn take_after_lists(src: &[u8], at: usize, pointLoad: bool, v: &mut [u32; 40]) -> FieldsEnd
-    ensures { fields_end_of result v.new ≡ taken (drop beam_links (beam_fields_of pointLoad)) src.now at beam_links v.old }
-{
-    take_row(src, at, v, BEAM_LINKS, beam_field_count(pointLoad))
+    // a list has four groups at most
+    let n = v[k].min(4) as usize;
+    take_row(input, v, k + 1, k + 1 + 2 * n)
 }
 
 // The fields of a beam.
-fn take_beam(src: &[u8], at: usize, pointLoad: bool, v: &mut [u32; 40]) -> FieldsEnd
-    ensures { fields_end_of result v.new ≡ taken (beam_fields_of pointLoad) src.now at 0 v.old }
+#[inline(always)]
+fn take_beam(input: &mut Cursor, pointLoad: bool, v: &mut [u32; 40]) -> Result<(), Question>
+    ensures { Moved input.old (taken (beam_fields_of pointLoad) input.old.src.now input.old.at 0 v.old) (fields_end_of result v.new) input.new }
 {
-    match take_row(src, at, v, 0, TENSION_GROUPS) {
-        FieldsEnd::Refused(q) => FieldsEnd::Refused(q),
-        FieldsEnd::To(tension) => match take_list(src, tension, v, TENSION_COUNT) {
-            FieldsEnd::Refused(q) => FieldsEnd::Refused(q),
-            FieldsEnd::To(count) => match take_row(
-                src,
-                count,
-                v,
-                COMPRESSION_COUNT,
-                COMPRESSION_GROUPS,
-            ) {
-                FieldsEnd::Refused(q) => FieldsEnd::Refused(q),
-                FieldsEnd::To(compression) => match take_list(
-                    src,
-                    compression,
-                    v,
-                    COMPRESSION_COUNT,
-                ) {
-                    FieldsEnd::Refused(q) => FieldsEnd::Refused(q),
-                    FieldsEnd::To(links) => take_after_lists(src, links, pointLoad, v),
-                },
-            },
-        },
-    }
+    take_row(input, v, 0, TENSION_GROUPS)?;
+    take_list(input, v, TENSION_COUNT)?;
+    take_row(input, v, COMPRESSION_COUNT, COMPRESSION_GROUPS)?;
+    take_list(input, v, COMPRESSION_COUNT)?;
+    take_row(input, v, BEAM_LINKS, beam_field_count(pointLoad))
 }
 
 // The fields of a column.
-fn take_column(src: &[u8], at: usize, v: &mut [u32; 40]) -> FieldsEnd
-    ensures { fields_end_of result v.new ≡ taken column_fields src.now at 0 v.old }
+#[tactic(auto, using(crate::proofs::Taken::column_rows))]
+#[inline(always)]
+fn take_column(input: &mut Cursor, v: &mut [u32; 40]) -> Result<(), Question>
+    ensures { Moved input.old (taken column_fields input.old.src.now input.old.at 0 v.old) (fields_end_of result v.new) input.new }
 {
-    match take_row(src, at, v, 0, COLUMN_GROUPS) {
-        FieldsEnd::Refused(q) => FieldsEnd::Refused(q),
-        FieldsEnd::To(groups) => match take_list(src, groups, v, COLUMN_COUNT) {
-            FieldsEnd::Refused(q) => FieldsEnd::Refused(q),
-            FieldsEnd::To(links) => take_row(src, links, v, COLUMN_LINKS, COLUMN_FIELDS),
-        },
-    }
+    take_row(input, v, 0, COLUMN_GROUPS)?;
+    take_list(input, v, COLUMN_COUNT)?;
+    take_row(input, v, COLUMN_LINKS, COLUMN_FIELDS)
 }
 
-// The fields of a kind from `at` on, into v: the place after them, or the refusal of a number.
-pub fn take_fields(src: &[u8], at: usize, kind: MemberKind, v: &mut [u32; 40]) -> FieldsEnd
-    ensures { fields_end_of result v.new ≡ taken (fields_of kind) src.now at 0 v.old }
+// The fields of a kind, into v; or the refusal of a number.
+#[tactic(auto, using(crate::proofs::Taken::mesh_rows), unfolding(field_table::specs::Fields::fields_of))]
+#[inline(always)]
+pub fn take_fields(input: &mut Cursor, kind: MemberKind, v: &mut [u32; 40]) -> Result<(), Question>
+    ensures { Moved input.old (taken (fields_of kind) input.old.src.now input.old.at 0 v.old) (fields_end_of result v.new) input.new }
 {
     match kind {
-        MemberKind::Beam(pointLoad) => take_beam(src, at, pointLoad, v),
-        MemberKind::Column => take_column(src, at, v),
-        MemberKind::Mesh => take_row(src, at, v, 0, MESH_FIELDS),
+        MemberKind::Beam(pointLoad) => take_beam(input, pointLoad, v),
+        MemberKind::Column => take_column(input, v),
+        MemberKind::Mesh => take_row(input, v, 0, MESH_FIELDS),
     }
 }

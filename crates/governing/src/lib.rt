@@ -2,43 +2,28 @@
 #![tactic(auto)]
 
 ghost use Rattle.std.specs.Prelude.{◌≡◌};
-ghost use Rattle.governing.specs.Governing.{governing_value, including, Governs};
+ghost use Rattle.governing.specs.Governing.{including, Governs};
 
 use ratio::Utilization;
 
-#[derive(Clone, Copy)]
-pub enum Governing {
-    // the largest of those reached
-    Largest(f64),
-    // none was reached
-    None,
-}
-
 // One more, which counts where it was reached.
-fn include(g: Governing, reached: bool, value: f64) -> Governing
-    ensures { governing_value result ≡ including (governing_value g) reached value }
+fn include(g: Option<f64>, reached: bool, value: f64) -> Option<f64>
+    ensures { result ≡ including g reached value }
 {
-    if reached {
-        match g {
-            Governing::Largest(most) => {
-                if most < value {
-                    Governing::Largest(value)
-                } else {
-                    Governing::Largest(most)
-                }
-            }
-            Governing::None => Governing::Largest(value),
-        }
-    } else {
-        g
+    if !reached {
+        return g;
+    }
+    match g {
+        Some(most) => Some(if most < value { value } else { most }),
+        None => Some(value),
     }
 }
 
 // The largest of the utilizations that were reached, or none.
-pub fn governing_of(u: Utilization) -> Governing
-    ensures { Governs u (governing_value result) }
+pub fn governing_of(u: Utilization) -> Option<f64>
+    ensures { Governs u result }
 {
-    let a = include(Governing::None, u.firstReached, u.first);
+    let a = include(None, u.firstReached, u.first);
     let b = include(a, u.secondReached, u.second);
     let c = include(b, u.thirdReached, u.third);
     include(c, u.fourthReached, u.fourth)

@@ -2,7 +2,7 @@
 use Rattle.std.specs.Prelude.{ℕ, zero, suc, ◌+◌, ◌/◌, List, [], ◌∷◌, ltb, length}
 use Rattle.question.specs.declared.Question.TheVariants.{Count, Mark}
 use Rattle.question.specs.declared.Refusal.{Refusal}
-use Rattle.question.specs.declared.Verdict.{Verdict}
+use Rattle.question.specs.Reading.{Verdict}
 use Rattle.question.specs.Reading.{Reading, got, and_then, ask, passed, refusal, named}
 use Rattle.member.specs.Member.{Member}
 use Rattle.field_layout.specs.Layout.{slot, part}

@@ -3,100 +3,64 @@
 #![tactic(auto)]
 
 ghost use Rattle.std.specs.Prelude.{◌≡◌, ◌+◌, ◌*◌, ◌≤◌, length};
-ghost use Rattle.field_layout.specs.Layout.{part};
-ghost use Rattle.members.specs.MembersResult.{headed};
 ghost use Rattle.schedule.specs.Schedule.{schedule_answer};
 ghost use Rattle.held_schedule.specs.HeldSchedule.{record_words, record_at, records_from, record_verdict, record_members, held_members};
 
-use members::Head;
-use question::{Question, Refusal, Verdict};
-use schedule::ScheduleAnswer;
-use verdict::built_verdict;
+use field_check::Slots;
+use question::{Question, Refusal};
+use verdict::{Built, built_verdict};
 
 // The words of a member's record: its mark, its kind, and 40 slots that hold its fields in the order of its kind's table.
-const RECORD_WORDS: usize = 42;
+pub const RECORD_WORDS: usize = 42;
 
-// The 40 words from `at` on, into slots.
-fn copy_slots(words: &[u32], at: usize, v: &mut [u32; 40])
-    requires { at + 40 ≤ length words.now }
-    ensures { v.new ≡ part words.now at 40 }
-{
-    // as a slice: its length is then known to the proof
-    let s: &mut [u32] = v;
-    let mut i: usize = 0;
-    let mut p = at;
-    while i < 40 {
-        s[i] = words[p];
-        i += 1;
-        p += 1;
-    }
-}
-
-// The record at word `at`: its fields into slots; its mark and kind, and the word after it.
-pub fn read_record(words: &[u32], at: usize, v: &mut [u32; 40]) -> Head
+// The record at word `at`, as a member that a caller built.
+pub fn read_record(words: &[u32], at: usize) -> Built
     requires { at + record_words ≤ length words.now }
-    ensures { (headed result v.new ≡ record_at words.now at) × (result.next ≡ at + record_words) }
+    ensures { result ≡ record_at words.now at }
 {
-    copy_slots(words, at + 2, v);
-    Head {
+    let mut v = [0; 40];
+    v.copy_from_slice(&words[at + 2..at + RECORD_WORDS]);
+    Built {
         mark: words[at],
         kind: words[at + 1],
-        next: at + RECORD_WORDS,
+        fields: Slots { v },
     }
 }
 
-// The questions put to the record at word `at`.
-fn record_verdict(words: &[u32], at: usize, before: u32) -> Verdict
-    requires { at + record_words ≤ length words.now }
-    ensures { result ≡ record_verdict before (record_at words.now at) }
+// The questions put to a record whose mark must be above the one before.
+#[tactic(auto, unfolding(crate::specs::HeldSchedule::record_verdict))]
+fn record_verdict(before: u32, x: &Built) -> Result<(), Question>
+    ensures { result ≡ record_verdict before x.now }
 {
-    let mut v = [0u32; 40];
-    let r = read_record(words, at, &mut v);
-    if before < r.mark {
-        built_verdict(r.mark, r.kind, &v)
+    if before < x.mark {
+        built_verdict(x.mark, x.kind, &x.fields.v)
     } else {
-        Verdict::Refused(Question::Mark)
+        Err(Question::Mark)
     }
 }
 
 // The same of `count` records, one after the other.
-fn validate_records(words: &[u32], count: u32) -> ScheduleAnswer
+#[tactic(auto, using(crate::proofs::Records::record_refused))]
+fn validate_records(words: &[u32], count: u32) -> Result<u32, Refusal>
     requires { (count ≤ 500) × (count * record_words ≤ length words.now) }
     ensures { result ≡ schedule_answer (record_members 0 1 (records_from count words.now 0)) }
 {
-    let mut p: usize = 0;
-    let mut before: u32 = 0;
-    let mut i: u32 = 1;
-    let mut left = count;
-    while 0 < left {
-        match record_verdict(words, p, before) {
-            Verdict::Refused(q) => {
-                return ScheduleAnswer::Refused(Refusal {
-                    question: q,
-                    member: i,
-                });
-            }
-            Verdict::Accepted => {
-                before = words[p];
-                p += RECORD_WORDS;
-                i += 1;
-                left -= 1;
-            }
-        }
+    let mut before = 0;
+    for i in 0..count {
+        let x = read_record(words, i as usize * RECORD_WORDS);
+        record_verdict(before, &x).map_err(|q| q.at(i + 1))?;
+        before = x.mark;
     }
-    ScheduleAnswer::Accepted(count)
+    Ok(count)
 }
 
 // The validator of a held schedule: every question that is put to it. Words past the last whole record are not read.
-pub fn validate_held(words: &[u32]) -> ScheduleAnswer
+pub fn validate_held(words: &[u32]) -> Result<u32, Refusal>
     ensures { result ≡ schedule_answer (held_members words.now) }
 {
     let count = words.len() / RECORD_WORDS;
     if 500 < count {
-        ScheduleAnswer::Refused(Refusal {
-            question: Question::Count,
-            member: 0,
-        })
+        Err(Question::Count.at(0))
     } else {
         validate_records(words, count as u32)
     }

@@ -1,4 +1,5 @@
 -- From the answers of crates `report` and `writer` to those that a caller gets.
+use Rattle.std.specs.Prelude.{Err, Ok}
 use Prim.Native.Nat.{ℕ}
 use mathlib.Core.Path.{◌≡◌, refl, ap, subst, ◌∙◌}
 use mathlib.Core.List.{List}
@@ -8,8 +9,7 @@ use Rattle.member.specs.Member.{Member}
 use Rattle.bars.specs.declared.Group.{Group}
 use Rattle.verdict.specs.declared.Built.{Built}
 use Rattle.verdict.specs.Built.{member_of}
-use Rattle.question.specs.declared.Verdict.{Verdict}
-use Rattle.question.specs.declared.Verdict.TheVariants.{Accepted, Refused}
+use Rattle.question.specs.Reading.{Verdict}
 use Rattle.verdict.specs.Verdict.{built_verdict}
 use Rattle.question.specs.Reading.{got}
 use Rattle.lent_groups.specs.CopiedGroups.{first_four}
@@ -18,7 +18,7 @@ use Rattle.lent_member.specs.declared.Lent.{Lent}
 use Rattle.lent_member.specs.Lent.{lent_member, first_count, second_count}
 use Rattle.lent_member.specs.LentSlots.{built_of}
 use Rattle.lent_member.proofs.InSlots.{slots_again, copied, slots, lent_verdict_lem, lent_member_lem}
-use Rattle.text_answer.specs.declared.TextAnswer.{TextAnswer}
+use Rattle.text_answer.specs.Printed.{TextAnswer}
 use Rattle.text_answer.specs.Printed.{numbers_of, text_too_long, answered}
 use Rattle.report_text.specs.ReportText.{member_text}
 use Rattle.report.specs.Report.{line_or_no, member_report_of}
@@ -56,16 +56,16 @@ module _ (x : Lent) (first second : List Group) where
   lent_report = rw (← lent_verdict_lem x first second) (of_verdict (built_verdict x.mark x.kind (slots x first second)) refl)
     where
       of_verdict : (w : Verdict) → built_verdict x.mark x.kind (slots x first second) ≡ w → line_or_no w (member_of (copied x first second)) ≡ line_or_no w (lent_member x first second)
-      of_verdict Accepted e = ap (λ (m : Member). got (member_text m)) (lent_member_lem x first second e)
-      of_verdict (Refused q) e = refl
+      of_verdict (Ok tt) e = ap (λ (m : Member). got (member_text m)) (lent_member_lem x first second e)
+      of_verdict (Err q) e = refl
 
   accepted : (room : ℕ) {r : AnswerRecord} → r ≡ answer_record (answered (text_too_long 1) (member_report_of (copied x first second)) room) → r.question ≡ 0 → member_of (copied x first second) ≡ lent_member x first second
   unfolding member_report_of
   accepted room e z = lent_member_lem x first second (of_verdict (built_verdict x.mark x.kind (slots x first second)) (rw e at z))
     where
-      of_verdict : (w : Verdict) → (answer_record (answered (text_too_long 1) (line_or_no w (member_of (copied x first second))) room)).question ≡ 0 → w ≡ Accepted
-      of_verdict Accepted h = refl
-      of_verdict (Refused q) h = absurd (numbered q h)
+      of_verdict : (w : Verdict) → (answer_record (answered (text_too_long 1) (line_or_no w (member_of (copied x first second))) room)).question ≡ 0 → w ≡ (Ok tt)
+      of_verdict (Ok tt) h = refl
+      of_verdict (Err q) h = absurd (numbered q h)
 
   lent_copied : {before after : List ℕ} {r : AnswerRecord} → MemberEntry (member_report_of (copied x first second)) (member_of (copied x first second)) before after r → MemberEntry (lent_report_of x first second) (lent_member x first second) before after r
   lent_copied {before = before} {after = after} {r = r} p =

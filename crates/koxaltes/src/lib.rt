@@ -12,8 +12,8 @@ ghost use Rattle.utilization.specs.Utilized.{utilization_answer};
 ghost use Rattle.koxaltes.specs.Entries.{lent_report_of, ReportEntry, MemberEntry, WriteEntry};
 ghost use Rattle.koxaltes.specs.UtilizationEntry.{lent_utilization_of, UtilizationEntry};
 
-use answer_record::{AnswerRecord, UtilizationRecord, answer_record, utilization_record};
-use bars::Group;
+use answer_record::{AnswerRecord, UtilizationRecord};
+use bars::{Group, Groups};
 use lent_groups::first_groups;
 use lent_member::{Lent, built_from, first_count, second_count};
 use report::{member_report, report};
@@ -25,13 +25,13 @@ use writer::write_schedule;
 pub fn koxaltes_report(src: &[u8], out: &mut [u8]) -> AnswerRecord
     ensures { ReportEntry src.now out.old out.new result }
 {
-    answer_record(report(src, out))
+    AnswerRecord::from(report(src, out))
 }
 
 fn member_answer(x: Lent, first: [Group; 4], second: [Group; 4], out: &mut [u8]) -> AnswerRecord
     ensures { MemberEntry (member_report_of (built_of x first second)) (member_of (built_of x first second)) out.old out.new result }
 {
-    answer_record(member_report(built_from(x, first, second), out))
+    AnswerRecord::from(member_report(built_from(x, first, second), out))
 }
 
 // The line of a member that a caller built: its groups, tension and compression of a beam, are lent as two lists of groups.
@@ -55,7 +55,7 @@ pub fn koxaltes_member_report(
 fn utilization_answer(x: Lent, first: [Group; 4], second: [Group; 4]) -> UtilizationRecord
     ensures { UtilizationEntry (utilization_answer (built_of x first second)) (member_of (built_of x first second)) result }
 {
-    utilization_record(utilization_of(built_from(x, first, second)))
+    UtilizationRecord::from(utilization_of(built_from(x, first, second)))
 }
 
 // The utilization of a member that a caller built, its groups lent as for `koxaltes_member_report`.
@@ -73,7 +73,10 @@ pub fn koxaltes_member_utilization(x: Lent, first: &[Group], second: &[Group]) -
 pub fn koxaltes_bar_totals(groups: &[Group], count: usize) -> BarTotals
     ensures { result ≡ bar_totals count groups.now }
 {
-    copied_totals(first_groups(groups, count), count)
+    copied_totals(Groups {
+        list: first_groups(groups, count),
+        count,
+    })
 }
 
 // The file of a schedule held as words, 42 to a member: mark, kind, and 40 slots with its fields in the order of a schedule, four groups to
@@ -81,5 +84,5 @@ pub fn koxaltes_bar_totals(groups: &[Group], count: usize) -> BarTotals
 pub fn koxaltes_write_schedule(words: &[u32], out: &mut [u8]) -> AnswerRecord
     ensures { WriteEntry words.now out.old out.new result }
 {
-    answer_record(write_schedule(words, out))
+    AnswerRecord::from(write_schedule(words, out))
 }

@@ -3,12 +3,11 @@
 
 ghost use Rattle.std.specs.Prelude.{◌≡◌};
 ghost use Rattle.member.specs.Member.{mesh_of};
-ghost use Rattle.member.specs.Accepted.{AcceptedMesh};
-ghost use Rattle.lap.specs.Steps.{lap_row, tension_lap, required_lap, lap_length};
+ghost use Rattle.lap.specs.Steps.{lap_row, lap_least, tension_lap, required_lap, lap_length};
 
 use anchorage::basic_length;
-use member::Mesh;
-use quantity::{Length, div_up, larger, select};
+use member::ValidMesh;
+use quantity::{Length, div_up};
 
 // The row of the lap: "with" cross bar if stacked or nested, "without" if flat.
 fn lap_row(lapping: u32) -> u32
@@ -17,31 +16,40 @@ fn lap_row(lapping: u32) -> u32
     if lapping == 1 { 1 } else { 0 }
 }
 
-// 5.3.7 in tension, in hundred-thousandths of a millimetre.
-fn tension_lap(x: Mesh) -> u64
-    requires { AcceptedMesh (mesh_of x) }
-    ensures { result ≡ tension_lap (mesh_of x) }
+fn least_lap(lapping: u32) -> u64
+    ensures { result ≡ lap_least lapping }
 {
-    let least = select(x.lapping == 1, 200, 300);
-    let basic = basic_length(x, lap_row(x.lapping), 0);
-    let d = x.d.in_millimetres();
-    let thick = select(12 <= d, 5 * d, 0);
-    larger(100000 * least, 13 * basic) + 100000 * thick
+    if lapping == 1 { 200 } else { 300 }
+}
+
+// 5.3.7 in tension, in hundred-thousandths of a millimetre.
+fn tension_lap(x: ValidMesh) -> u64
+    ensures { result ≡ tension_lap (mesh_of x.mesh) }
+{
+    let least = 100000 * least_lap(x.mesh.lapping);
+    let basic = basic_length(x, lap_row(x.mesh.lapping), 0);
+    let d = x.mesh.d.in_millimetres();
+    let lap = least.max(13 * basic);
+    if 12 <= d { lap + 500000 * d } else { lap }
 }
 
 // 5.3.7, in millionths of a millimetre.
-fn required_lap(x: Mesh) -> u64
-    requires { AcceptedMesh (mesh_of x) }
-    ensures { result ≡ required_lap (mesh_of x) }
+#[tactic(auto, using(crate::proofs::Bounds::tension_most), unfolding(crate::specs::Steps::required_lap))]
+fn required_lap(x: ValidMesh) -> u64
+    ensures { result ≡ required_lap (mesh_of x.mesh) }
 {
     let lap = tension_lap(x);
-    select(x.compression == 1, larger(150000000, 7 * lap), 10 * lap)
+    if x.mesh.compression == 1 {
+        (7 * lap).max(150000000)
+    } else {
+        10 * lap
+    }
 }
 
 // 5.3.7: the lap.
-pub fn lap_length(x: Mesh) -> Length
-    requires { AcceptedMesh (mesh_of x) }
-    ensures { result.0 ≡ lap_length (mesh_of x) }
+#[tactic(auto, unfolding(crate::specs::Steps::lap_length))]
+pub fn lap_length(x: ValidMesh) -> Length
+    ensures { result.0 ≡ lap_length (mesh_of x.mesh) }
 {
     Length::of_millimetres(div_up(required_lap(x), 1000000))
 }

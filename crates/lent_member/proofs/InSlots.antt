@@ -7,7 +7,7 @@ use native.Mathlib.Omega.{arith}
 use lib.Dec.{ltb, ltb→lt}
 use lib.ListN.{length, get_or, take, drop}
 use borrow.Author.Tests.{lt-ltb, le-leb}
-use Rattle.std.specs.Prelude.{if◌then◌else◌}
+use Rattle.std.specs.Prelude.{if◌then◌else◌, Ok}
 use Rattle.quantity.proofs.Choice.{both_true, and_true, and_false, and_assoc, and_comm}
 use Rattle.question.specs.declared.Question.TheVariants.{Mark, Kind, Field}
 use Rattle.bars.specs.declared.Group.{Group}
@@ -24,8 +24,7 @@ use Rattle.field_check.proofs.Joined.{holds_append}
 use Rattle.field_layout.specs.Layout.{slot, beam_at, column_at, mesh_at, member_at}
 use Rattle.field_layout.proofs.Held.{hold_at}
 use Rattle.verdict.specs.declared.Built.{Built}
-use Rattle.question.specs.declared.Verdict.{Verdict}
-use Rattle.question.specs.declared.Verdict.TheVariants.{Accepted}
+use Rattle.question.specs.Reading.{Verdict}
 use Rattle.verdict.specs.Verdict.{ask_verdict, mark_in_range, verdict_of, member_verdict, fields_verdict, built_verdict}
 use Rattle.verdict.proofs.Accepted.{built_passed}
 use Rattle.lent_groups.specs.LentGroups.{group_holds, groups_hold, named_hold}
@@ -226,7 +225,7 @@ module _ (x : Lent) (first second : List Group) where
   lent_verdict_lem = ap (λ (t : Verdict). ask_verdict Mark (mark_in_range x.mark) (ask_verdict Kind (known x.kind) t)) (verdict_is v first second x.mark (kind_of x.kind))
 
   -- an accepted member is the one in the slots
-  pub lent_member_lem : built_verdict x.mark x.kind slots ≡ Accepted → member_at x.mark (kind_of x.kind) slots ≡ lent_member x first second
+  pub lent_member_lem : built_verdict x.mark x.kind slots ≡ (Ok tt) → member_at x.mark (kind_of x.kind) slots ≡ lent_member x first second
   unfolding lent_member
   lent_member_lem a =
       member_is v first second x.mark (kind_of x.kind) (sym (fields_hold_lem v first second (kind_of x.kind)) ∙ (built_passed x.mark x.kind slots a).held)

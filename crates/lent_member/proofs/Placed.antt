@@ -1,24 +1,20 @@
--- Groups put into slots.
-use Prim.Native.Nat.{ℕ, suc, ◌+◌}
-use mathlib.Core.Path.{◌≡◌}
-use mathlib.Core.List.{List}
-use native.Mathlib.Numerals.{add-one}
+-- Fields copied into slots.
+use Prim.Native.Nat.{ℕ, ◌+◌, ◌-◌, ◌≤◌}
+use mathlib.Core.Path.{◌≡◌, sym}
+use mathlib.Core.List.{List, append_assoc}
 use native.Mathlib.Omega.{arith}
-use lib.ListN.{get_or, set}
-use lib.Seq.{sets}
-use Rattle.bars.specs.declared.Group.{Group}
-use Rattle.lent_groups.specs.CopiedGroups.{no_group, first_four}
-use Rattle.field_layout.specs.Layout.{group_numbers}
+use lib.ListN.{length, take, drop, length-take, length-drop}
+use borrow.Rule.Slice.PartMut.{put_mid, Post-is}
+use Rattle.std.proofs.lemmas.List.Edits.{sets, sets-eq}
+use Rattle.field_layout.specs.Layout.{part}
+use Rattle.field_layout.proofs.Part.{part_slice}
 
--- one group is two stores
-abbrev pub with_group : List ℕ → ℕ → Group → List ℕ
-with_group v at g = set (set v at g.diameter) (at + 1) g.bars
-
--- four groups are eight
-pub groups_stored : (v : List ℕ) (at : ℕ) (gs : List Group)
-    → with_group (with_group (with_group (with_group v at (get_or gs 0 no_group)) (at + 2) (get_or gs 1 no_group)) (at + 4) (get_or gs 2 no_group)) (at + 6) (get_or gs 3 no_group) ≡ sets v at (group_numbers (first_four gs))
-groups_stored v at gs =
-    let e₂ : at + 2 ≡ suc (suc at) = omega arith in
-    let e₄ : at + 4 ≡ suc (suc (suc (suc at))) = omega arith in
-    let e₆ : at + 6 ≡ suc (suc (suc (suc (suc (suc at))))) = omega arith in
-    rw (e₂, e₄, e₆, add-one at, add-one (suc (suc at)), add-one (suc (suc (suc (suc at)))), add-one (suc (suc (suc (suc (suc (suc at)))))))
+pub fields_placed : (v s ys : List ℕ) (at from n : ℕ) → at + n ≤ length v → from + n ≤ length s → ys ≡ take (from + n - from) (drop from s)
+    → put_mid at (at + n - at) v ys ≡ sets v at (part s from n)
+fields_placed v s ys at from n h g e =
+    let row = take n (drop from s) in
+    let k : from + n - from ≡ n = omega arith in
+    let l : length row ≡ n = simp (length-take, length-drop) (omega arith) in
+    let there : at + length row ≤ length v = rw l h in
+    rw (part_slice s from n g, sets-eq row v at there, l, e, k, Post-is at (at + n) v (omega arith))
+    (sym (append_assoc (take at v) row (drop (at + n) v)))

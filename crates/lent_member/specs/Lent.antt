@@ -11,7 +11,7 @@ use Rattle.field_table.specs.declared.MemberKind.TheVariants as kinds
 use Rattle.field_table.specs.Fields.{tension_count, column_count, known, kind_of, fields_of}
 use Rattle.field_check.specs.FieldCheck.{fields_hold}
 use Rattle.field_layout.specs.Layout.{slot, beam_from, column_from, mesh_at}
-use Rattle.question.specs.declared.Verdict.{Verdict}
+use Rattle.question.specs.Reading.{Verdict}
 use Rattle.verdict.specs.Verdict.{ask_verdict, mark_in_range, verdict_of}
 use Rattle.lent_groups.specs.LentGroups.{named_hold}
 use Rattle.lent_member.specs.declared.Lent.{Lent}

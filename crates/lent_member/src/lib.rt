@@ -1,7 +1,7 @@
 // A built member whose groups of bars are lent beside it as lists. Lent is document 01's word for borrowed: the caller keeps the list.
 #![tactic(auto)]
 
-ghost use Rattle.std.specs.Prelude.{◌≡◌, ◌+◌, ◌≤◌, set};
+ghost use Rattle.std.specs.Prelude.{◌≡◌, ◌+◌, ◌≤◌};
 ghost use Rattle.std.proofs.lemmas.List.Edits.{sets};
 ghost use Rattle.field_table.specs.Fields.{kind_of};
 ghost use Rattle.field_layout.specs.Layout.{part, group_numbers};
@@ -11,7 +11,6 @@ ghost use Rattle.lent_member.specs.LentSlots.{beam_slots, column_slots, mesh_slo
 
 use bars::Group;
 use field_check::Slots;
-use field_layout::index;
 use field_table::{
     BEAM_LINKS, COLUMN_COUNT, COLUMN_FIELDS, COLUMN_GROUPS, COLUMN_LINKS, COMPRESSION_COUNT,
     COMPRESSION_GROUPS, MESH_FIELDS, MemberKind, TENSION_COUNT, TENSION_GROUPS, beam_field_count,
@@ -46,11 +45,9 @@ const COLUMN_LINKS_GIVEN: usize = 5;
 pub fn first_count(x: Lent) -> usize
     ensures { result ≡ first_count (kind_of x.kind) x.fields.v }
 {
-    let f = x.fields;
-    let v = f.v;
     match kind_of(x.kind) {
-        MemberKind::Beam(_) => index(v[TENSION_COUNT]),
-        MemberKind::Column => index(v[COLUMN_COUNT]),
+        MemberKind::Beam(_) => x.fields.v[TENSION_COUNT] as usize,
+        MemberKind::Column => x.fields.v[COLUMN_COUNT] as usize,
         MemberKind::Mesh => 0,
     }
 }
@@ -59,83 +56,62 @@ pub fn first_count(x: Lent) -> usize
 pub fn second_count(x: Lent) -> usize
     ensures { result ≡ second_count (kind_of x.kind) x.fields.v }
 {
-    let f = x.fields;
-    let v = f.v;
     match kind_of(x.kind) {
-        MemberKind::Beam(_) => index(v[COMPRESSION_COUNT_GIVEN]),
-        MemberKind::Column => 0,
-        MemberKind::Mesh => 0,
+        MemberKind::Beam(_) => x.fields.v[COMPRESSION_COUNT_GIVEN] as usize,
+        MemberKind::Column | MemberKind::Mesh => 0,
     }
 }
 
 // The slots from `at` on hold `count` fields from field `from` on.
-fn put_fields(t: Slots, at: usize, x: Fields, from: usize, count: usize) -> Slots
+fn put_fields(v: &mut [u32; 40], at: usize, x: Fields, from: usize, count: usize)
     requires { (at + count ≤ 40) × (from + count ≤ 24) }
-    ensures { result.v ≡ sets t.v at (part x.v from count) }
+    ensures { v.new ≡ sets v.old at (part x.v from count) }
 {
-    let s = x.v;
-    let mut v = t.v;
-    let mut p = at;
-    let mut f = from;
-    let mut left = count;
-    while 0 < left {
-        v[p] = s[f];
-        p += 1;
-        f += 1;
-        left -= 1;
-    }
-    Slots { v }
-}
-
-fn put_group(t: Slots, at: usize, g: Group) -> Slots
-    requires { at + 2 ≤ 40 }
-    ensures { result.v ≡ set (set t.v at g.diameter) (at + 1) g.bars }
-{
-    let mut v = t.v;
-    v[at] = g.diameter;
-    v[at + 1] = g.bars;
-    Slots { v }
+    v[at..at + count].copy_from_slice(&x.v[from..from + count]);
 }
 
 // The slots from `at` on hold the four groups.
-fn put_groups(t: Slots, at: usize, groups: [Group; 4]) -> Slots
+fn put_groups(v: &mut [u32; 40], at: usize, groups: [Group; 4])
     requires { at + 8 ≤ 40 }
-    ensures { result.v ≡ sets t.v at (group_numbers (first_four groups)) }
+    ensures { v.new ≡ sets v.old at (group_numbers (first_four groups)) }
 {
-    let one = put_group(t, at, groups[0]);
-    let two = put_group(one, at + 2, groups[1]);
-    let three = put_group(two, at + 4, groups[2]);
-    put_group(three, at + 6, groups[3])
+    for i in 0..4 {
+        v[at + 2 * i] = groups[i].diameter;
+        v[at + 2 * i + 1] = groups[i].bars;
+    }
 }
 
 // The slots of a beam. a is put for both kinds, and only kind 4 reads it.
 fn beam_slots(x: Fields, first: [Group; 4], second: [Group; 4]) -> Slots
     ensures { result.v ≡ filled (beam_slots x.v first second) }
 {
-    let none = Slots { v: [0; 40] };
-    let a = put_fields(none, 0, x, 0, 9);
-    let b = put_groups(a, TENSION_GROUPS, first);
-    let c = put_fields(b, COMPRESSION_COUNT, x, COMPRESSION_COUNT_GIVEN, 1);
-    let d = put_groups(c, COMPRESSION_GROUPS, second);
+    let mut v = [0; 40];
+    put_fields(&mut v, 0, x, 0, 9);
+    put_groups(&mut v, TENSION_GROUPS, first);
+    put_fields(&mut v, COMPRESSION_COUNT, x, COMPRESSION_COUNT_GIVEN, 1);
+    put_groups(&mut v, COMPRESSION_GROUPS, second);
     let rest = beam_field_count(true) - BEAM_LINKS;
-    put_fields(d, BEAM_LINKS, x, BEAM_LINKS_GIVEN, rest)
+    put_fields(&mut v, BEAM_LINKS, x, BEAM_LINKS_GIVEN, rest);
+    Slots { v }
 }
 
 fn column_slots(x: Fields, first: [Group; 4]) -> Slots
     ensures { result.v ≡ filled (column_slots x.v first) }
 {
-    let none = Slots { v: [0; 40] };
-    let a = put_fields(none, 0, x, 0, 5);
-    let b = put_groups(a, COLUMN_GROUPS, first);
+    let mut v = [0; 40];
+    put_fields(&mut v, 0, x, 0, 5);
+    put_groups(&mut v, COLUMN_GROUPS, first);
     let rest = COLUMN_FIELDS - COLUMN_LINKS;
-    put_fields(b, COLUMN_LINKS, x, COLUMN_LINKS_GIVEN, rest)
+    put_fields(&mut v, COLUMN_LINKS, x, COLUMN_LINKS_GIVEN, rest);
+    Slots { v }
 }
 
 fn mesh_slots(x: Fields) -> Slots
     ensures { result.v ≡ filled (mesh_slots x.v) }
 {
-    let none = Slots { v: [0; 40] };
-    put_fields(none, 0, x, 0, MESH_FIELDS)
+    let mut v = [0; 40];
+    put_fields(&mut v, 0, x, 0, MESH_FIELDS);
+    Slots { v }
 }
 
 #[tactic(auto, unfolding(crate::specs::LentSlots::lent_slots))]
@@ -153,11 +129,9 @@ fn slots_of(kind: MemberKind, x: Fields, first: [Group; 4], second: [Group; 4]) 
 pub fn built_from(x: Lent, first: [Group; 4], second: [Group; 4]) -> Built
     ensures { result ≡ built_of x first second }
 {
-    let f = x.fields;
-    let fields = slots_of(kind_of(x.kind), f, first, second);
     Built {
         mark: x.mark,
         kind: x.kind,
-        fields,
+        fields: slots_of(kind_of(x.kind), x.fields, first, second),
     }
 }

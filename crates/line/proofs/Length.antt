@@ -1,4 +1,5 @@
 -- How long a line can be.
+use Rattle.std.specs.Prelude.{None, Some}
 use Prim.Native.Nat.{ℕ, ◌+◌, ◌*◌, ◌^◌, ◌≤◌, ◌<◌}
 use mathlib.Core.Path.{◌≡◌}
 use mathlib.Core.List.{List, [], ◌∷◌}
@@ -7,8 +8,7 @@ use lib.ListN.{length, length-append}
 use Rattle.quantity.specs.All.{All}
 use Rattle.text.specs.Text.{text_of, ended_by}
 use Rattle.text.proofs.Decimal.{decimal_short}
-use Rattle.outcome.specs.declared.Figure.{Figure}
-use Rattle.outcome.specs.declared.Figure.TheVariants.{Reached, Unreached}
+use Rattle.outcome.specs.Outcome.{Figure}
 use Rattle.outcome.specs.declared.Outcome.{Outcome}
 use Rattle.line.specs.Line.{figure_word, line_words, head_words, refusal_words, line_text}
 use Rattle.line.proofs.Text.{line_last, line_more, text_append}
@@ -22,12 +22,12 @@ length_more w v ws = rw line_more (simp length-append)
 
 -- a figure that was reached is below n
 abbrev pub Below : ℕ → Figure → Type 0
-Below n (Reached v) = v < n
-Below n Unreached = Unit {0}
+Below n (Some v) = v < n
+Below n None = Unit {0}
 
 figure_short : (k : ℕ) (f : Figure) → 0 < k → Below (10 ^ k) f → length (figure_word f) ≤ k
-figure_short k (Reached v) p h = decimal_short k v p h
-figure_short k Unreached p h = p
+figure_short k (Some v) p h = decimal_short k v p h
+figure_short k None p h = p
 
 -- a mark of at most j digits and figures of at most k
 pub line_short : (j k mark : ℕ) (o : Outcome) → 0 < j → 0 < k → mark < 10 ^ j → Below (10 ^ k) o.first → Below (10 ^ k) o.second → Below (10 ^ k) o.third → Below (10 ^ k) o.fourth → length (line_text (line_words mark o)) ≤ j + 4 * k + 13

@@ -1,4 +1,5 @@
 -- Reading back: what a line's bytes say is what the line was made from.
+use Rattle.std.specs.Prelude.{None, Some}
 use Prim.Native.Nat.{ℕ, zero, suc, ◌<◌}
 use mathlib.Core.Path.{◌≡◌, refl, ap, ◌∙◌}
 use mathlib.Core.List.{List, [], ◌∷◌, map}
@@ -10,8 +11,7 @@ use Rattle.text.specs.Text.{every, is_decimal, value_of, joined_by, text_of, lin
 use Rattle.text.proofs.Bytes.{Graphic, graphic}
 use Rattle.text.proofs.Decimal.{decimal_is, decimal_value, decimal_graphic}
 use Rattle.text.proofs.Split.{read_word, read_line, read_back}
-use Rattle.outcome.specs.declared.Figure.{Figure}
-use Rattle.outcome.specs.declared.Figure.TheVariants.{Reached, Unreached}
+use Rattle.outcome.specs.Outcome.{Figure}
 use Rattle.outcome.specs.declared.Outcome.{Outcome}
 use Rattle.outcome.specs.Outcome.{name_of}
 use Rattle.line.specs.Line.{figure_word, line_words, head_words, report_words, line_text}
@@ -22,8 +22,8 @@ use Rattle.check_name.proofs.Names.{name_graphic}
 
 figure_graphic : (f : Figure) → All Graphic (figure_word f)
 unfolding every
-figure_graphic (Reached v) = decimal_graphic v
-figure_graphic Unreached = graphic (45 ∷ []) refl
+figure_graphic (Some v) = decimal_graphic v
+figure_graphic None = graphic (45 ∷ []) refl
 
 pub line_graphic : (mark : ℕ) (o : Outcome) → All (All Graphic) (line_words mark o)
 line_graphic mark o = (
@@ -39,8 +39,8 @@ head_graphic n = (graphic (get_or (head_words n) 0 []) refl, (decimal_graphic n,
 
 pub figure_parsed : (f : Figure) → parsed_figure (figure_word f) ≡ f
 unfolding parsed_figure is_decimal every
-figure_parsed (Reached v) = rw (decimal_is v, decimal_value v)
-figure_parsed Unreached = refl
+figure_parsed (Some v) = rw (decimal_is v, decimal_value v)
+figure_parsed None = refl
 
 -- what the line of a member says
 abbrev pub parsed_of : ℕ → Outcome → ParsedLine

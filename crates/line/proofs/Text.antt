@@ -3,8 +3,9 @@ use Prim.Native.Nat.{ℕ}
 use mathlib.Core.Path.{◌≡◌, refl}
 use mathlib.Core.List.{List, [], ◌∷◌, ◌++◌, append_assoc}
 use Rattle.text.specs.Text.{joined_by, ended_by, text_of}
-use Rattle.text.specs.Put.{Put}
-use Rattle.text.proofs.Put.{put_then}
+use Rattle.text.specs.declared.Writer.{Writer}
+use Rattle.text.specs.Wrote.{Wrote}
+use Rattle.text.proofs.Put.{wrote_then}
 use Rattle.line.specs.Line.{line_text}
 
 -- ---- A line from its words
@@ -18,12 +19,12 @@ unfolding text_of ended_by joined_by
 line_more w v ws = simp append_assoc
 
 -- the last word of a line
-pub put_end : (w : List ℕ) {d : List ℕ} {at : ℕ} {d₁ : List ℕ} {p : ℕ} → Put d at (w ++ (10 ∷ [])) d₁ p → Put d at (line_text (w ∷ [])) d₁ p
-put_end w a = rw line_last a
+pub wrote_end : (w : List ℕ) {a b : Writer} → Wrote a (w ++ (10 ∷ [])) b → Wrote a (line_text (w ∷ [])) b
+wrote_end w h = rw line_last h
 
 -- a word before others
-pub put_more : (w v : List ℕ) (ws : List (List ℕ)) {d : List ℕ} {at : ℕ} {d₁ : List ℕ} {p : ℕ} {d₂ : List ℕ} {q : ℕ} → Put d at (w ++ (32 ∷ [])) d₁ p → Put d₁ p (line_text (v ∷ ws)) d₂ q → Put d at (line_text (w ∷ v ∷ ws)) d₂ q
-put_more w v ws a b = rw line_more (put_then a b)
+pub wrote_more : (w v : List ℕ) (ws : List (List ℕ)) {a b c : Writer} → Wrote a (w ++ (32 ∷ [])) b → Wrote b (line_text (v ∷ ws)) c → Wrote a (line_text (w ∷ v ∷ ws)) c
+wrote_more w v ws h k = rw line_more (wrote_then h k)
 
 -- ---- A text from its lines
 

@@ -1,16 +1,15 @@
 -- The words of each line that is printed (document 01, "One schedule, printed").
 -- `text_of` (crate `text`) makes the text of lines of words.
-use Rattle.std.specs.Prelude.{ℕ, List, [], ◌∷◌, map, length}
+use Rattle.std.specs.Prelude.{ℕ, List, [], ◌∷◌, map, length, None, Some}
 use Rattle.text.specs.Text.{decimal, text_of}
-use Rattle.outcome.specs.declared.Figure.{Figure}
-use Rattle.outcome.specs.declared.Figure.TheVariants.{Reached, Unreached}
+use Rattle.outcome.specs.Outcome.{Figure}
 use Rattle.outcome.specs.declared.Outcome.{Outcome}
 use Rattle.outcome.specs.Outcome.{name_of}
 
 -- a figure is a decimal number, "-" where its check was not reached
 abbrev pub figure_word : Figure → List ℕ
-figure_word (Reached v) = decimal v
-figure_word Unreached = 45 ∷ []
+figure_word (Some v) = decimal v
+figure_word None = 45 ∷ []
 
 -- a member's line: mark, OK or the failed check, four figures
 abbrev pub line_words : ℕ → Outcome → List (List ℕ)

@@ -1,9 +1,8 @@
 -- What the bytes of a member's line say, whatever wrote them.
-use Rattle.std.specs.Prelude.{ℕ, ◌≡◌, List, if◌then◌else◌}
+use Rattle.std.specs.Prelude.{ℕ, ◌≡◌, List, if◌then◌else◌, None, Some}
 use Rattle.text.specs.Text.{value_of, is_decimal, word_of}
 use Rattle.outcome.specs.declared.Check.{Check}
-use Rattle.outcome.specs.declared.Figure.{Figure}
-use Rattle.outcome.specs.declared.Figure.TheVariants.{Reached, Unreached}
+use Rattle.outcome.specs.Outcome.{Figure}
 use Rattle.outcome.specs.Outcome.{name_of}
 
 -- the six words of a line: the mark's value, the word of the check in bytes, the figures
@@ -17,7 +16,7 @@ pub record ParsedLine : Type 0 where
 
 -- a word of digits is a figure, any other one is none
 unfoldable pub parsed_figure : List ℕ → Figure
-parsed_figure w = if is_decimal w then Reached (value_of w) else Unreached
+parsed_figure w = if is_decimal w then Some (value_of w) else None
 
 unfoldable pub parse_line : List ℕ → ParsedLine
 parse_line line = record {

@@ -2,78 +2,67 @@
 #![tactic(auto)]
 
 ghost use Rattle.std.specs.Prelude.{◌∷◌, ◌++◌, []};
-ghost use Rattle.text.specs.Text.{decimal, word_text};
-ghost use Rattle.text.specs.Put.{Put};
+ghost use Rattle.text.specs.Text.{decimal};
+ghost use Rattle.text.specs.Wrote.{Wrote};
 ghost use Rattle.line.specs.Line.{figure_word, line_words, head_words, refusal_words, line_text};
 
 use check_name::name_of;
 use decimal::put_decimal;
-use outcome::{Figure, Outcome};
-use text::{Word, put_byte, put_word, word_of};
+use outcome::Outcome;
+use text::Writer;
 
-// The word `w` and the separator after it.
-fn put_label(out: &mut [u8], at: usize, w: Word, separator: u8) -> usize
-    ensures { Put out.old at (word_text w ++ (separator ∷ [])) out.new result }
+// The word `s` and the separator after it.
+fn put_label(w: &mut Writer, s: &[u8], separator: u8)
+    ensures { Wrote w.old (s.now ++ (separator ∷ [])) w.new }
 {
-    let p = put_word(out, at, w);
-    put_byte(out, p, separator)
+    w.put(s);
+    w.put_byte(separator);
 }
 
 // The number `v` and the separator after it.
-fn put_number(out: &mut [u8], at: usize, v: u64, separator: u8) -> usize
-    ensures { Put out.old at (decimal v ++ (separator ∷ [])) out.new result }
+fn put_number(w: &mut Writer, v: u64, separator: u8)
+    ensures { Wrote w.old (decimal v ++ (separator ∷ [])) w.new }
 {
-    let p = put_decimal(out, at, v);
-    put_byte(out, p, separator)
+    put_decimal(w, v);
+    w.put_byte(separator);
 }
 
 // The figure `f` and the separator after it.
-fn put_figure(out: &mut [u8], at: usize, f: Figure, separator: u8) -> usize
-    ensures { Put out.old at (figure_word f ++ (separator ∷ [])) out.new result }
+fn put_figure(w: &mut Writer, f: Option<u64>, separator: u8)
+    ensures { Wrote w.old (figure_word f ++ (separator ∷ [])) w.new }
 {
     match f {
-        Figure::Reached(v) => put_number(out, at, v, separator),
-        Figure::Unreached => {
-            let p = put_byte(out, at, b'-');
-            put_byte(out, p, separator)
-        }
+        Some(v) => put_number(w, v, separator),
+        None => put_label(w, b"-", separator),
     }
 }
 
-// The line of a member with its newline, from `at` on.
-pub fn put_line(out: &mut [u8], at: usize, mark: u32, o: Outcome) -> usize
-    ensures { Put out.old at (line_text (line_words mark o)) out.new result }
+// The line of a member with its newline.
+pub fn put_line(w: &mut Writer, mark: u32, o: Outcome)
+    ensures { Wrote w.old (line_text (line_words mark o)) w.new }
 {
-    let check = o.check;
-    let first = o.first;
-    let second = o.second;
-    let third = o.third;
-    let fourth = o.fourth;
-    let p = put_number(out, at, mark as u64, b' ');
-    let q = put_label(out, p, name_of(check), b' ');
-    let s = put_figure(out, q, first, b' ');
-    let t = put_figure(out, s, second, b' ');
-    let u = put_figure(out, t, third, b' ');
-    put_figure(out, u, fourth, b'\n')
+    put_number(w, mark as u64, b' ');
+    put_label(w, name_of(o.check), b' ');
+    put_figure(w, o.first, b' ');
+    put_figure(w, o.second, b' ');
+    put_figure(w, o.third, b' ');
+    put_figure(w, o.fourth, b'\n');
 }
 
 // `members N` and a newline.
-pub fn put_head(out: &mut [u8], at: usize, n: u32) -> usize
-    ensures { Put out.old at (line_text (head_words n)) out.new result }
+pub fn put_head(w: &mut Writer, n: u32)
+    ensures { Wrote w.old (line_text (head_words n)) w.new }
 {
-    let members = word_of(7, [b'm', b'e', b'm', b'b', b'e', b'r', b's', b' ']);
-    let p = put_label(out, at, members, b' ');
-    put_number(out, p, n as u64, b'\n')
+    put_label(w, b"members", b' ');
+    put_number(w, n as u64, b'\n');
 }
 
 // `refused N member M` and a newline.
-pub fn put_refusal(out: &mut [u8], at: usize, question: u32, member: u32) -> usize
-    ensures { Put out.old at (line_text (refusal_words question member)) out.new result }
+pub fn put_refusal(w: &mut Writer, question: u32, member: u32)
+    ensures { Wrote w.old (line_text (refusal_words question member)) w.new }
 {
-    let refused = word_of(7, [b'r', b'e', b'f', b'u', b's', b'e', b'd', b' ']);
-    let named = word_of(6, [b'm', b'e', b'm', b'b', b'e', b'r', b' ', b' ']);
-    let p = put_label(out, at, refused, b' ');
-    let q = put_number(out, p, question as u64, b' ');
-    let s = put_label(out, q, named, b' ');
-    put_number(out, s, member as u64, b'\n')
+    put_label(w, b"refused", b' ');
+    put_number(w, question as u64, b' ');
+    put_label(w, b"member", b' ');
+    put_number(w, member as u64, b'\n');
 }

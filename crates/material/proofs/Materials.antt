@@ -1,5 +1,5 @@
--- The tables of materials: every listed concrete and steel has usable values; the place of a grade.
-use Prim.Native.Nat.{ℕ, ◌-◌, ◌/◌, ◌%◌, ◌≤◌}
+-- The tables of materials: every listed concrete and steel has usable values; the grades stand 5 apart.
+use Prim.Native.Nat.{ℕ, ◌%◌, ◌≤◌}
 use mathlib.Core.Path.{◌≡◌, subst}
 use mathlib.Core.Bool.{true}
 use mathlib.Core.List.{List}
@@ -8,11 +8,11 @@ use lib.Dec.{eqb, eqb→eq}
 use lib.ListN.{get_or}
 use Rattle.quantity.specs.Unit.{stress_of}
 use Rattle.quantity.proofs.Rounding.{down_multiple}
-use Rattle.table.specs.Table.{place, cell, listed}
+use Rattle.table.specs.Table.{cell, listed}
 use Rattle.material.specs.Concrete.{concretes, concrete_of}
 use Rattle.material.specs.Steel.{steels, steel_of, link_steels, fyv_of}
 use Rattle.material.specs.Bounds.{WholeUpTo, UsableConcrete, UsableSteel}
-use Rattle.table.proofs.Table.{cell_between, key_between, listed_key, listed_rule, listed_place}
+use Rattle.table.proofs.Table.{cell_between, key_between, listed_key, listed_rule}
 
 whole : (x n : ℕ) → x ≤ n → WholeUpTo n (stress_of x)
 whole x n h = record { most = rw (down_multiple 100 x (omega arith)) h; exact = rw (down_multiple 100 x (omega arith)) }
@@ -58,6 +58,3 @@ pub grade_multiple : (grade : ℕ) → listed grade concretes ≡ true → grade
 grade_multiple grade e =
     subst (λ (n : ℕ). n % 5 ≡ 0) (listed_key grade concretes e)
     (eqb→eq _ _ (listed_rule (λ (r : List ℕ). eqb (get_or r 0 0 % 5) 0) grade concretes 0 tt e))
-
-pub grade_at : (grade : ℕ) → listed grade concretes ≡ true → (grade - 20) / 5 ≡ place grade concretes
-grade_at grade e = listed_place (λ (k : ℕ). (k - 20) / 5) grade concretes tt e

@@ -1,7 +1,7 @@
 // Concrete and steel of the codes: their tables, and what the checks use of them.
 #![tactic(auto)]
 
-ghost use Rattle.std.specs.Prelude.{◌≡◌, [], get_or};
+ghost use Rattle.std.specs.Prelude.{◌≡◌};
 ghost use Rattle.quantity.specs.Unit.{stress_of, stress_of_tenths, stress_of_hundredths};
 ghost use Rattle.table.specs.Table.{place, listed};
 ghost use Rattle.material.specs.Concrete.{concretes, concrete_of};
@@ -32,10 +32,10 @@ pub struct Steel {
 pub fn is_grade(grade: u32) -> bool
     ensures { result ≡ listed grade concretes }
 {
-    match grade {
-        20 | 25 | 30 | 35 | 40 | 45 | 50 | 55 | 60 | 65 | 70 | 75 | 80 => true,
-        _ => false,
-    }
+    matches!(
+        grade,
+        20 | 25 | 30 | 35 | 40 | 45 | 50 | 55 | 60 | 65 | 70 | 75 | 80
+    )
 }
 
 // A concrete from its fc in tenths of N/mm², ft and ftk in hundredths, and Ec.
@@ -50,119 +50,50 @@ fn concrete_row(fc: u32, ft: u32, ftk: u32, ec: u32) -> Concrete
     }
 }
 
+// Grade, fc in tenths of N/mm², ft and ftk in hundredths, Ec.
+// One more grade: a row here and in specs/Concrete.antt; the grade in is_grade, the number of rows in grade_row.
+static CONCRETES: [[u32; 5]; 13] = [
+    [20, 96, 110, 154, 25500],
+    [25, 119, 127, 178, 28000],
+    [30, 143, 143, 201, 30000],
+    [35, 167, 157, 220, 31500],
+    [40, 191, 171, 239, 32500],
+    [45, 211, 180, 251, 33500],
+    [50, 231, 189, 264, 34500],
+    [55, 253, 196, 274, 35500],
+    [60, 275, 204, 285, 36000],
+    [65, 297, 209, 293, 36500],
+    [70, 318, 214, 299, 37000],
+    [75, 338, 218, 305, 37500],
+    [80, 359, 222, 311, 38000],
+];
+
 // The row of a grade in the table, and the number of rows where there is no such grade.
-fn grade_row(grade: u32) -> u32
+fn grade_row(grade: u32) -> usize
     ensures { result ≡ place grade concretes }
 {
     if is_grade(grade) {
-        (grade - 20) / 5
+        ((grade - 20) / 5) as usize
     } else {
         13
     }
 }
 
-// The columns of the table, by row. Arms of plain numbers compile to lookup tables; a constant array would be made anew at each use.
-// One more grade: a row in specs/Concrete.antt, an arm in each column; the grade in is_grade, the number of rows in grade_row.
-fn fc_at(i: u32) -> u32
-    ensures { result ≡ get_or (get_or concretes i []) 1 0 }
-{
-    match i {
-        0 => 96,
-        1 => 119,
-        2 => 143,
-        3 => 167,
-        4 => 191,
-        5 => 211,
-        6 => 231,
-        7 => 253,
-        8 => 275,
-        9 => 297,
-        10 => 318,
-        11 => 338,
-        12 => 359,
-        _ => 0,
-    }
-}
-
-fn ft_at(i: u32) -> u32
-    ensures { result ≡ get_or (get_or concretes i []) 2 0 }
-{
-    match i {
-        0 => 110,
-        1 => 127,
-        2 => 143,
-        3 => 157,
-        4 => 171,
-        5 => 180,
-        6 => 189,
-        7 => 196,
-        8 => 204,
-        9 => 209,
-        10 => 214,
-        11 => 218,
-        12 => 222,
-        _ => 0,
-    }
-}
-
-fn ftk_at(i: u32) -> u32
-    ensures { result ≡ get_or (get_or concretes i []) 3 0 }
-{
-    match i {
-        0 => 154,
-        1 => 178,
-        2 => 201,
-        3 => 220,
-        4 => 239,
-        5 => 251,
-        6 => 264,
-        7 => 274,
-        8 => 285,
-        9 => 293,
-        10 => 299,
-        11 => 305,
-        12 => 311,
-        _ => 0,
-    }
-}
-
-fn ec_at(i: u32) -> u32
-    ensures { result ≡ get_or (get_or concretes i []) 4 0 }
-{
-    match i {
-        0 => 25500,
-        1 => 28000,
-        2 => 30000,
-        3 => 31500,
-        4 => 32500,
-        5 => 33500,
-        6 => 34500,
-        7 => 35500,
-        8 => 36000,
-        9 => 36500,
-        10 => 37000,
-        11 => 37500,
-        12 => 38000,
-        _ => 0,
-    }
-}
-
+#[tactic(auto, unfolding(crate::specs::Concrete::concrete_of))]
 pub fn concrete_of(grade: u32) -> Concrete
     ensures { result ≡ concrete_of grade }
 {
-    let i = grade_row(grade);
-    concrete_row(fc_at(i), ft_at(i), ftk_at(i), ec_at(i))
+    match CONCRETES.get(grade_row(grade)) {
+        Some([_, fc, ft, ftk, ec]) => concrete_row(*fc, *ft, *ftk, *ec),
+        None => concrete_row(0, 0, 0, 0),
+    }
 }
 
 // Whether there is such a steel of bars.
 pub fn is_steel(code: u32) -> bool
     ensures { result ≡ listed code steels }
 {
-    match code {
-        1 => true,
-        2 => true,
-        _ => false,
-    }
+    matches!(code, 1 | 2)
 }
 
 // A steel from its strengths in N/mm² and its depth limit.
@@ -174,10 +105,11 @@ fn steel_row(fyk: u32, fy: u32, fyc: u32, axial: u32, depthLimit: u32) -> Steel
         fy: Stress::of_units(fy),
         fyc: Stress::of_units(fyc),
         axial: Stress::of_units(axial),
-        depthLimit: depthLimit,
+        depthLimit,
     }
 }
 
+#[tactic(auto, unfolding(crate::specs::Steel::steel_of))]
 pub fn steel_of(code: u32) -> Steel
     ensures { result ≡ steel_of code }
 {
@@ -192,14 +124,11 @@ pub fn steel_of(code: u32) -> Steel
 pub fn is_link_steel(code: u32) -> bool
     ensures { result ≡ listed code link_steels }
 {
-    match code {
-        1 => true,
-        2 => true,
-        _ => false,
-    }
+    matches!(code, 1 | 2)
 }
 
 // The strength of the links' steel.
+#[tactic(auto, unfolding(crate::specs::Steel::fyv_of))]
 pub fn fyv_of(code: u32) -> Stress
     ensures { result ≡ fyv_of code }
 {

@@ -1,2 +1,3 @@
 pub mod Member
 pub mod Accepted
+pub mod OneWay

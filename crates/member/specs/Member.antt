@@ -1,7 +1,8 @@
 -- Members as document 01 has them; kind 4 as document 02, wish 3.
 -- "A member's fields are those of its kind, with the groups that its counts name": two are equal exactly where mark, kind and these are.
-use Rattle.std.specs.Prelude.{ℕ, ◌-◌, List, take}
+use Rattle.std.specs.Prelude.{ℕ, ◌-◌, List}
 use Rattle.bars.specs.declared.Group.{Group}
+use Rattle.bars.specs.Listed.{groups_in}
 use Rattle.member.specs.declared.Load.{Load}
 use Rattle.member.specs.declared.Beam as code-beam
 use Rattle.member.specs.declared.Column as code-column
@@ -84,8 +85,8 @@ beam_of x =
       a' = x.ac.0;
       concrete = x.concrete;
       steel = x.steel;
-      tension = take x.tensions x.tension;
-      compression = take x.compressions x.compression;
+      tension = groups_in x.tension;
+      compression = groups_in x.compression;
       link = x.link;
       legs = x.legs;
       s = x.s.0;
@@ -107,7 +108,7 @@ column_of x =
       h = x.h.0;
       concrete = x.concrete;
       steel = x.steel;
-      groups = take x.count x.groups;
+      groups = groups_in x.groups;
       link = x.link;
       s = x.s.0;
       l₀ = x.l0.0;

@@ -4,8 +4,11 @@
 ghost use Rattle.std.specs.Prelude.{◌≡◌};
 ghost use Rattle.member.specs.Member.{h₀, beam_of};
 
-use bars::Group;
+use bars::Groups;
 use quantity::{Force, Length};
+pub use valid::{RangedBeam, ValidBeam, ValidColumn, ValidMesh};
+
+mod valid;
 
 // The load of a beam: uniform (kind 1), or mostly one load, at the distance a from the support (kind 4).
 #[derive(Clone, Copy)]
@@ -14,7 +17,7 @@ pub enum Load {
     Point(Length),
 }
 
-// Kinds 1 and 4. Only the first `tensions` and `compressions` groups are there.
+// Kinds 1 and 4.
 #[derive(Clone, Copy)]
 pub struct Beam {
     pub b: Length,
@@ -26,10 +29,8 @@ pub struct Beam {
     pub ac: Length,
     pub concrete: u32,
     pub steel: u32,
-    pub tensions: usize,
-    pub tension: [Group; 4],
-    pub compressions: usize,
-    pub compression: [Group; 4],
+    pub tension: Groups,
+    pub compression: Groups,
     // links: diameter, legs, spacing, steel
     pub link: u32,
     pub legs: u32,
@@ -46,15 +47,14 @@ pub struct Beam {
     pub load: Load,
 }
 
-// Kind 2. Only the first `count` groups are there.
+// Kind 2.
 #[derive(Clone, Copy)]
 pub struct Column {
     pub b: Length,
     pub h: Length,
     pub concrete: u32,
     pub steel: u32,
-    pub count: usize,
-    pub groups: [Group; 4],
+    pub groups: Groups,
     pub link: u32,
     pub s: Length,
     pub l0: Length,
@@ -81,5 +81,5 @@ pub struct Mesh {
 pub fn effective_depth(x: Beam) -> Length
     ensures { result.0 ≡ h₀ (beam_of x) }
 {
-    x.h.minus(x.at)
+    x.h.saturating_sub(x.at)
 }

@@ -1,5 +1,6 @@
 -- What accepted members say: how they were read, and that each is accepted.
-use Prim.Native.Nat.{ℕ, zero, suc, ◌+◌, ◌<◌}
+use Rattle.std.specs.Prelude.{Err, Ok}
+use Prim.Native.Nat.{ℕ, zero, suc, ◌+◌, ◌-◌, ◌<◌}
 use mathlib.Core.Path.{◌≡◌, refl, sym, ap, ◌∙◌}
 use mathlib.Core.Bool.{Bool, true}
 use mathlib.Core.List.{List, []}
@@ -7,8 +8,7 @@ use native.Mathlib.Omega.{arith}
 use borrow.Author.Tests.{ltb-true, lt-ltb}
 use Rattle.question.specs.declared.Question.{Question}
 use Rattle.question.specs.declared.Question.TheVariants.{Mark, Kind}
-use Rattle.varint.specs.declared.Number.{Number}
-use Rattle.varint.specs.declared.Number.TheVariants.{Value}
+use Rattle.varint.specs.Varint.{Number}
 use Rattle.varint.specs.Varint.{number_at}
 use Rattle.member.specs.Member.{Member}
 use Rattle.member.specs.Accepted.{AcceptedMember, AcceptedMembers}
@@ -17,14 +17,14 @@ use Rattle.field_table.specs.Fields.{known, kind_of, fields_of}
 use Rattle.field_check.specs.FieldCheck.{fields_hold}
 use Rattle.field_domain.proofs.InRange.{in_between}
 use Rattle.verdict.specs.declared.Built.{Built}
-use Rattle.question.specs.declared.Verdict.{Verdict}
-use Rattle.question.specs.declared.Verdict.TheVariants as verdicts
+use Rattle.question.specs.Reading.{Verdict}
 use Rattle.verdict.specs.Built.{member_of}
 use Rattle.verdict.specs.Verdict.{mark_in_range, member_verdict}
 use Rattle.verdict.proofs.Accepted.{accepted_member}
 use Rattle.question.specs.Reading.{Reading, got, no, and_then, passed, Got}
-use Rattle.field_validator.specs.Placed.{Placed, placed, of_number}
+use Rattle.varint.specs.Placed.{Placed, placed, of_number}
 use Rattle.field_validator.specs.FieldsAt.{empty, checked, fields}
+use Rattle.members.specs.Accepted.{AcceptedThen, AcceptedFrom}
 use Rattle.members.specs.Members.{member_body, mark_rises, mark_at, kind_at, member, members}
 use Rattle.field_validator.specs.Taken.{taken}
 use Rattle.field_validator.proofs.Checked.{on_checked, passes, number_passes}
@@ -63,10 +63,10 @@ body_accepted mark kind s p x m e =
     on_verdict : (f : Placed (List ℕ)) (t : Verdict) → member_verdict (kind_of kind) f.value ≡ t → fields_hold (fields_of (kind_of kind)) 0 f.value ≡ true
         → passed t (got (placed (record { mark = mark; kind = kind; fields = record { v = f.value } }) f.next)) ≡ got x
         → AcceptedMember (member_of x.value) × (x.value.mark ≡ mark)
-    on_verdict f verdicts.Accepted v h e =
+    on_verdict f (Ok tt) v h e =
         let same : placed (record { mark = mark; kind = kind; fields = record { v = f.value } }) f.next ≡ x = cc in
         rw (← ap (λ (y : Placed Built). y.value) same) (accepted_member mark f.value m (kind_of kind) h v, refl)
-    on_verdict f (verdicts.Refused q) v h e = absurd (no_got e)
+    on_verdict f (Err q) v h e = absurd (no_got e)
 
 pub member_was : (s : List ℕ) (p before : ℕ) (b : Built) (next : ℕ) → member s p before ≡ got (placed b next) → MemberWas s p before b
 unfolding member mark_at kind_at mark_rises
@@ -77,9 +77,9 @@ member_was s p before b next e =
     let w = body_accepted m.value.value k.value.value s k.value.next (placed b next) t.0 k.then in
     record { accepted = w.0; above = rw w.1 (ltb-true _ _ t.1) }
 
-pub number_was : (q : Question) (test : ℕ → Bool) (s : List ℕ) (p x next : ℕ) → checked q test s p ≡ got (placed x next) → number_at s p ≡ Value x next
+pub number_was : (q : Question) (test : ℕ → Bool) (s : List ℕ) (p x next : ℕ) → checked q test s p ≡ got (placed x next) → number_at s p ≡ Ok (x, next)
 number_was q test s p x next =
-    on_checked (λ o. o ≡ got (placed x next) → number_at s p ≡ Value x next) q test s p
+    on_checked (λ o. o ≡ got (placed x next) → number_at s p ≡ Ok (x, next)) q test s p
     (λ y after n _ e.
     let same : placed y after ≡ placed x next = cc in
     let v : y ≡ x = ap (λ (r : Placed ℕ). r.value) same in
@@ -103,8 +103,8 @@ pub record MemberParts (s : List ℕ) (p : ℕ) (x : Placed Built) : Type 0 wher
   pub kind : ℕ
   pub after_kind : ℕ
   pub slots : List ℕ
-  pub mark_is : number_at s p ≡ Value mark after_mark
-  pub kind_is : number_at s after_mark ≡ Value kind after_kind
+  pub mark_is : number_at s p ≡ Ok (mark, after_mark)
+  pub kind_is : number_at s after_mark ≡ Ok (kind, after_kind)
   pub is_known : known kind ≡ true
   pub held : fields_hold (fields_of (kind_of kind)) 0 slots ≡ true
   pub takes : taken (fields_of (kind_of kind)) s after_kind 0 empty ≡ got (placed slots x.next)
@@ -123,12 +123,12 @@ member_parts s p before x e =
     (fields_taken s f.value.value k.value.next f.value.next (kind_of k.value.value) f.was)
     (member_verdict (kind_of k.value.value) f.value.value) f.then
   where
-    on_verdict : (m k : Placed ℕ) (f : Placed (List ℕ)) → number_at s p ≡ Value m.value m.next → number_at s m.next ≡ Value k.value k.next
+    on_verdict : (m k : Placed ℕ) (f : Placed (List ℕ)) → number_at s p ≡ Ok (m.value, m.next) → number_at s m.next ≡ Ok (k.value, k.next)
         → known k.value ≡ true → fields_hold (fields_of (kind_of k.value)) 0 f.value ≡ true
         → taken (fields_of (kind_of k.value)) s k.next 0 empty ≡ got (placed f.value f.next) → (t : Verdict)
         → passed t (got (placed (record { mark = m.value; kind = k.value; fields = record { v = f.value } }) f.next)) ≡ got x
         → MemberParts s p x
-    on_verdict m k f a b c h g verdicts.Accepted e =
+    on_verdict m k f a b c h g (Ok tt) e =
         let same : placed (record { mark = m.value; kind = k.value; fields = record { v = f.value } }) f.next ≡ x = cc in
         record {
           mark = m.value;
@@ -143,12 +143,14 @@ member_parts s p before x e =
           takes = g ∙ ap (λ (n : ℕ). got (placed f.value n)) (ap (λ (y : Placed Built). y.next) same);
           member_is = sym (ap (λ (y : Placed Built). y.value) same);
         }
-    on_verdict m k f a b c h g (verdicts.Refused q) e = absurd (no_got e)
+    on_verdict m k f a b c h g (Err q) e = absurd (no_got e)
 
-value_is : (n : Number) (x next y after : ℕ) → n ≡ Value x next → n ≡ Value y after → (x ≡ y) × (next ≡ after)
-value_is n x next y after e f = (cc, cc)
+value_is : (n : Number) (x next y after : ℕ) → n ≡ Ok (x, next) → n ≡ Ok (y, after) → (x ≡ y) × (next ≡ after)
+value_is n x next y after e f =
+    let same : placed x next ≡ placed y after = got_is (ap of_number (sym e ∙ f)) in
+    (ap (λ (r : Placed ℕ). r.value) same, ap (λ (r : Placed ℕ). r.next) same)
 
-value_got : {n : Number} {x next : ℕ} → n ≡ Value x next → Got (of_number n)
+value_got : {n : Number} {x next : ℕ} → n ≡ Ok (x, next) → Got (of_number n)
 unfolding Got
 value_got e = rw e tt
 
@@ -166,17 +168,17 @@ module _ (s : List ℕ) (p : ℕ) (ok : Got (member s p 0)) where
   pub mark_got : Got (of_number (number_at s p))
   mark_got = value_got parts.mark_is
 
-  module _ (mark at : ℕ) (m : number_at s p ≡ Value mark at) where
+  module _ (mark at : ℕ) (m : number_at s p ≡ Ok (mark, at)) where
     mark_same : (parts.mark ≡ mark) × (parts.after_mark ≡ at)
     mark_same = value_is _ _ _ _ _ parts.mark_is m
 
-    kind_at_lem : number_at s at ≡ Value parts.kind parts.after_kind
+    kind_at_lem : number_at s at ≡ Ok (parts.kind, parts.after_kind)
     kind_at_lem = rw (← mark_same.1) parts.kind_is
 
     pub kind_got : Got (of_number (number_at s at))
     kind_got = value_got kind_at_lem
 
-    module _ (kind first : ℕ) (k : number_at s at ≡ Value kind first) where
+    module _ (kind first : ℕ) (k : number_at s at ≡ Ok (kind, first)) where
       kind_same : (parts.kind ≡ kind) × (parts.after_kind ≡ first)
       kind_same = value_is _ _ _ _ _ kind_at_lem k
 
@@ -216,3 +218,25 @@ members_accepted zero s p before i ms end e =
 members_accepted (suc n) s p before i ms end e =
     let f = first_read n s p before i ms end e in
     rw f.list ((member_was s p before f.first f.next f.reads).accepted, members_accepted n s f.next f.first.mark (i + 1) f.others end f.reads_others)
+
+-- members that were read are accepted whatever marks stand before them
+pub members_from : (n : ℕ) (s : List ℕ) (p before i : ℕ) (ms : List Member) (end : ℕ) → members n s p before i ≡ got (placed ms end) → AcceptedFrom n s p
+unfolding members AcceptedFrom
+members_from zero s p before i ms end e = tt
+members_from (suc n) s p before i ms end e =
+    let f = first_read n s p before i ms end e in
+    rw (any_before s p before _ f.reads) (members_from n s f.next f.first.mark (i + 1) f.others end f.reads_others)
+
+-- the first of them
+pub first_accepted : (n : ℕ) (s : List ℕ) (p : ℕ) → 0 < n → AcceptedFrom n s p → Got (member s p 0)
+unfolding AcceptedFrom Got
+first_accepted n s p h a = let one_less : n ≡ suc (n - 1) = omega arith in go (member s p 0) (rw one_less at a)
+  where
+    go : (o : Reading Question (Placed Built)) → AcceptedThen o (λ b. AcceptedFrom (n - 1) s b.next) → Got o
+    go (got b) a = tt
+    go (no q) a = a
+
+-- the others
+pub others_accepted : (n : ℕ) (s : List ℕ) (p : ℕ) → 0 < n → (b : Built) (next : ℕ) → member s p 0 ≡ got (placed b next) → AcceptedFrom n s p → AcceptedFrom (n - 1) s next
+unfolding AcceptedFrom
+others_accepted n s p h b next e a = let one_less : n ≡ suc (n - 1) = omega arith in rw (one_less, e) at a

@@ -1,35 +1,37 @@
 -- The steps of reading members, as the code takes them.
+use Rattle.std.specs.Prelude.{Err, Ok, Result}
 use Prim.Native.Nat.{ℕ, zero, suc, ◌+◌, ◌-◌, ◌≤◌, ◌<◌}
 use mathlib.Core.Path.{◌≡◌, refl, sym, ap, ◌∙◌}
 use mathlib.Core.List.{List, [], ◌∷◌}
 use native.Mathlib.Omega.{arith}
 use lib.ListN.{length}
 use Rattle.question.specs.declared.Question.{Question}
+use Rattle.question.specs.declared.Question.TheVariants.{Mark, Kind}
 use Rattle.question.specs.declared.Refusal.{Refusal}
-use Rattle.varint.specs.declared.Number.{Number}
-use Rattle.varint.specs.declared.Number.TheVariants.{Value, Refused}
 use Rattle.member.specs.Member.{Member}
 use Rattle.field_table.specs.declared.MemberKind.{MemberKind}
-use Rattle.field_table.specs.Fields.{kind_of, fields_of}
+use Rattle.field_table.specs.Fields.{known, kind_of, fields_of}
 use Rattle.verdict.specs.declared.Built.{Built}
-use Rattle.question.specs.declared.Verdict.{Verdict}
-use Rattle.question.specs.declared.Verdict.TheVariants as verdicts
 use Rattle.verdict.specs.Built.{member_of}
 use Rattle.verdict.specs.Verdict.{member_verdict}
-use Rattle.members.specs.declared.MemberValidated.{MemberValidated}
-use Rattle.question.specs.Reading.{Reading, got, no, and_then, passed, refusal, named}
-use Rattle.field_validator.specs.Placed.{Placed, placed, of_number}
-use Rattle.field_validator.specs.FieldsAt.{empty, fields}
-use Rattle.members.specs.Members.{member_body, mark_at, kind_at, member, members}
-use Rattle.members.specs.MembersResult.{validated_of, marked, members_end}
+use Rattle.question.specs.Reading.{Reading, got, no, and_then, refusal, named}
+use Rattle.varint.specs.Placed.{Placed, placed}
+use Rattle.varint.specs.Moved.{reading_of}
+use Rattle.field_check.specs.declared.Slots.{Slots}
+use Rattle.field_validator.specs.FieldsAt.{empty, checked, fields}
+use Rattle.field_validator.specs.FieldsResult.{fields_read_of}
+use Rattle.members.specs.Members.{member_body, mark_rises, mark_at, kind_at, member, members}
+use Rattle.members.specs.MembersResult.{marked, members_end}
 
 -- ---- A member.
 
-pub read_got : (r : MemberValidated) → r.verdict ≡ verdicts.Accepted → validated_of r ≡ got (placed r.mark r.next)
-read_got r e = rw e
+-- what the code's result for fields says of their reading
+module _ (r : Result Slots Question) (p : ℕ) (o : Reading Question (Placed (List ℕ))) (was : reading_of (fields_read_of r) p ≡ o) where
+  pub fields_read : (w : Slots) → r ≡ Ok w → o ≡ got (placed w.v p)
+  fields_read w e = rw (← was, e)
 
-pub read_no : (r : MemberValidated) (q : Question) → r.verdict ≡ verdicts.Refused q → validated_of r ≡ no q
-read_no r q e = rw e
+  pub fields_refused : (q : Question) → r ≡ Err q → o ≡ no q
+  fields_refused q e = rw (← was, e)
 
 -- what the mark of a reading says of it
 record MarkedGot (o : Reading Question (Placed Built)) (mark next : ℕ) : Type 0 where
@@ -56,28 +58,35 @@ module _ (mark number : ℕ) (kind : MemberKind) (is : kind ≡ kind_of number) 
   unfolding member_body
   body_no q e = rw (← is, e)
 
-  pub body_passed : (v : List ℕ) (next : ℕ) → fields (fields_of kind) s p 0 empty ≡ got (placed v next)
-      → marked (member_body mark number s p) ≡ passed (member_verdict kind v) (got (placed mark next))
-  unfolding member_body
-  body_passed v next e = rw (← is, e) (on_verdict (member_verdict kind v))
-    where
-      on_verdict : (t : Verdict) → marked (passed t (got (placed (record { mark = mark; kind = number; fields = record { v = v } }) next))) ≡ passed t (got (placed mark next))
-      on_verdict verdicts.Accepted = refl
-      on_verdict (verdicts.Refused q) = refl
+  module _ (v : List ℕ) (next : ℕ) (e : fields (fields_of kind) s p 0 empty ≡ got (placed v next)) where
+    pub body_accepted : member_verdict kind v ≡ Ok tt → marked (member_body mark number s p) ≡ got (placed mark next)
+    unfolding member_body
+    body_accepted f = rw (← is, e, f)
 
-module _ (s : List ℕ) (p before : ℕ) where
-  pub mark_refused : (n : Number) (q : Question) → of_number n ≡ mark_at s p before → n ≡ Refused q → member s p before ≡ no q
-  unfolding member
-  mark_refused n q e f = rw (sym e ∙ ap of_number f)
+    pub body_refused : (q : Question) → member_verdict kind v ≡ Err q → marked (member_body mark number s p) ≡ no q
+    unfolding member_body
+    body_refused q f = rw (← is, e, f)
 
-  module _ (n : Number) (mark at : ℕ) (e : of_number n ≡ mark_at s p before) (f : n ≡ Value mark at) where
-    pub kind_refused : (k : Number) (q : Question) → of_number k ≡ kind_at s at → k ≡ Refused q → member s p before ≡ no q
-    unfolding member
-    kind_refused k q g h = rw (sym e ∙ ap of_number f, sym g ∙ ap of_number h)
+-- a member from its kind on, and from its fields on
+abbrev pub from_kind : ℕ → List ℕ → Placed ℕ → Reading Question (Placed ℕ)
+from_kind mark s k = marked (member_body mark k.value s k.next)
 
-    pub member_body_lem : (k : Number) (kind next : ℕ) → of_number k ≡ kind_at s at → k ≡ Value kind next → member s p before ≡ member_body mark kind s next
-    unfolding member
-    member_body_lem k kind next g h = rw (sym e ∙ ap of_number f, sym g ∙ ap of_number h)
+abbrev pub from_mark : List ℕ → Placed ℕ → Reading Question (Placed ℕ)
+from_mark s m = and_then (checked Kind known s m.next) (from_kind m.value s)
+
+pub member_steps : (s : List ℕ) (p before : ℕ) → marked (member s p before) ≡ and_then (checked Mark (mark_rises before) s p) (from_mark s)
+unfolding member mark_at kind_at
+member_steps s p before = marks (checked Mark (mark_rises before) s p)
+  where
+    kinds : (m : Placed ℕ) (o : Reading Question (Placed ℕ))
+        → marked (and_then o (λ k. member_body m.value k.value s k.next)) ≡ and_then o (from_kind m.value s)
+    kinds m (got k) = refl
+    kinds m (no q) = refl
+
+    marks : (o : Reading Question (Placed ℕ))
+        → marked (and_then o (λ m. and_then (checked Kind known s m.next) (λ k. member_body m.value k.value s k.next))) ≡ and_then o (from_mark s)
+    marks (got m) = kinds m (checked Kind known s m.next)
+    marks (no q) = refl
 
 -- ---- Members in a row.
 
@@ -85,30 +94,30 @@ pub no_member : (n : ℕ) (s : List ℕ) (p before i : ℕ) → n ≤ 0 → memb
 unfolding members
 no_member n s p before i h = let e : n ≡ 0 = omega arith in rw e
 
-module _ (n : ℕ) (s : List ℕ) (p before i : ℕ) (h : 0 < n) where
-  one_more : n ≡ suc (n - 1)
-  one_more = omega arith
+pub member_refused : (n : ℕ) (s : List ℕ) (p before i : ℕ) → 0 < n → (r : Result ℕ Question) (next : ℕ) → reading_of r next ≡ marked (member s p before)
+    → (q : Question) → r ≡ Err q → members n s p before i ≡ no (refusal q i)
+unfolding members
+member_refused n s p before i h r next was q e =
+    let one_more : n ≡ suc (n - 1) = omega arith in
+    rw (one_more, marked_no (member s p before) q (sym (rw e at was)))
 
-  pub member_refused : (q : Question) → marked (member s p before) ≡ no q → members n s p before i ≡ no (refusal q i)
+module _ (n m : ℕ) (s : List ℕ) (p before i : ℕ) (one_more : n ≡ suc m) where
+  pub member_read : (r : Result ℕ Question) (next : ℕ) → reading_of r next ≡ marked (member s p before) → (mark : ℕ) → r ≡ Ok mark
+      → members_end (members n s p before i) ≡ members_end (members m s next mark (i + 1))
   unfolding members
-  member_refused q e = rw (one_more, marked_no (member s p before) q e)
-
-  pub member_read : (mark next : ℕ) → marked (member s p before) ≡ got (placed mark next)
-      → members_end (members n s p before i) ≡ members_end (members (n - 1) s next mark (i + 1))
-  unfolding members
-  member_read mark next e =
-      let m = marked_got (member s p before) mark next e in
+  member_read r next was mark e =
+      let b = marked_got (member s p before) mark next (sym (rw e at was)) in
       ap (λ (k : ℕ). members_end (members k s p before i)) one_more
-      ∙ after m.built m.was
-      ∙ ap (λ (k : ℕ). members_end (members (n - 1) s next k (i + 1))) m.mark_is
+      ∙ after b.built b.was
+      ∙ ap (λ (k : ℕ). members_end (members m s next k (i + 1))) b.mark_is
     where
       kept : (m : Member) (o : Reading Refusal (Placed (List Member)))
           → members_end (and_then o (λ ms. got (placed (m ∷ ms.value) ms.next))) ≡ members_end o
       kept m (got ms) = refl
       kept m (no r) = refl
 
-      after : (b : Built) → member s p before ≡ got (placed b next) → members_end (members (suc (n - 1)) s p before i) ≡ members_end (members (n - 1) s next b.mark (i + 1))
-      after b f = rw f (kept (member_of b) (members (n - 1) s next b.mark (i + 1)))
+      after : (b : Built) → member s p before ≡ got (placed b next) → members_end (members (suc m) s p before i) ≡ members_end (members m s next b.mark (i + 1))
+      after b f = rw f (kept (member_of b) (members m s next b.mark (i + 1)))
 
 -- What a row of n members that was read says of its first member and of the others.
 pub record FirstRead (n : ℕ) (s : List ℕ) (p before i : ℕ) (ms : List Member) (end : ℕ) : Type 0 where

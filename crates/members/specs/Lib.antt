@@ -1,2 +1,3 @@
 pub mod Members
 pub mod MembersResult
+pub mod Accepted

@@ -10,7 +10,7 @@ use Rattle.verdict.specs.declared.Built.{Built}
 use Rattle.verdict.specs.Built.{member_of}
 use Rattle.verdict.specs.Verdict.{mark_in_range, member_verdict}
 use Rattle.question.specs.Reading.{Reading, got, and_then, passed, named}
-use Rattle.field_validator.specs.Placed.{Placed, placed}
+use Rattle.varint.specs.Placed.{Placed, placed}
 use Rattle.field_validator.specs.FieldsAt.{checked, fields, empty}
 
 -- the member with this mark and kind, whose fields stand from p on: 7, then the questions of a whole member

@@ -4,31 +4,15 @@ use Rattle.question.specs.declared.Question.{Question}
 use Rattle.question.specs.declared.Refusal.{Refusal}
 use Rattle.member.specs.Member.{Member}
 use Rattle.verdict.specs.declared.Built.{Built}
-use Rattle.members.specs.declared.MemberValidated.{MemberValidated}
-use Rattle.members.specs.declared.Head.{Head}
-use Rattle.members.specs.declared.MembersEnd.{MembersEnd}
-use Rattle.members.specs.declared.MembersEnd.TheVariants.{At}
-use Rattle.members.specs.declared.MembersEnd.TheVariants as ends
-use Rattle.question.specs.Reading.{Reading, got, no, passed}
-use Rattle.field_validator.specs.Placed.{Placed, placed}
-
-abbrev pub validated_of : MemberValidated → Reading Question (Placed ℕ)
-validated_of r = passed r.verdict (got (placed r.mark r.next))
+use Rattle.question.specs.Reading.{Reading, got, no}
+use Rattle.varint.specs.Placed.{Placed, placed}
 
 -- the mark of a member that was read
 abbrev pub marked : Reading Question (Placed Built) → Reading Question (Placed ℕ)
 marked (got b) = got (placed b.value.mark b.next)
 marked (no q) = no q
 
--- the member of this mark and kind whose fields stand in the slots v
-abbrev pub headed : Head → List ℕ → Built
-headed r v = record { mark = r.mark; kind = r.kind; fields = record { v = v } }
-
-abbrev pub members_end_of : MembersEnd → Reading Refusal ℕ
-members_end_of (At p) = got p
-members_end_of (ends.Refused r) = no r
-
 -- where a row of members ends
-abbrev pub members_end : Reading Refusal (Placed (List Member)) → Reading Refusal ℕ
-members_end (got ms) = got ms.next
+abbrev pub members_end : Reading Refusal (Placed (List Member)) → Reading Refusal (Placed (Unit {0}))
+members_end (got ms) = got (placed tt ms.next)
 members_end (no r) = no r

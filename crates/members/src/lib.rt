@@ -1,190 +1,94 @@
 // The members of a schedule. The validator goes through them one after the other: where they end, or the first question answered no,
-// with its member. The reader takes an accepted one again.
+// with its member. The reader takes an accepted one again. A cursor stands before a member, and after it where it is accepted.
 #![tactic(auto)]
 
-ghost use Rattle.std.specs.Prelude.{◌≡◌, ◌≤◌};
-ghost use Rattle.question.specs.Reading.{got, no, Got};
-ghost use Rattle.field_validator.specs.Placed.{placed, of_number};
-ghost use Rattle.field_validator.specs.FieldsAt.{empty};
-ghost use Rattle.members.specs.Members.{member_body, mark_rises, mark_at, kind_at, member, members};
-ghost use Rattle.members.specs.MembersResult.{validated_of, marked, headed, members_end_of, members_end};
+ghost use Rattle.std.specs.Prelude.{◌≡◌};
+ghost use Rattle.question.specs.Reading.{Got};
+ghost use Rattle.varint.specs.Moved.{Moved};
+ghost use Rattle.members.specs.Members.{member_body, mark_rises, member, members};
+ghost use Rattle.members.specs.MembersResult.{marked, members_end};
 
-use field_check::fields_hold;
+use field_check::{Slots, fields_hold};
 use field_reader::{read_fields, read_number};
 use field_table::{is_known, kind_of};
-use field_validator::{FieldsEnd, take_fields, validate_fields};
-use quantity::and;
-use question::{Question, Refusal, Verdict};
-use varint::{Number, number_at};
-use verdict::{mark_in_range, member_verdict};
+use field_validator::{number_that, take_fields, validate_fields};
+use question::{Question, Refusal};
+use varint::Cursor;
+use verdict::{Built, mark_in_range, member_verdict};
 
-// A member validated: refused, or its mark and the place after it.
-#[derive(Clone, Copy)]
-pub struct MemberValidated {
-    pub verdict: Verdict,
-    pub mark: u32,
-    pub next: usize,
-}
-
-// The mark and kind of a member, and the place after it.
-#[derive(Clone, Copy)]
-pub struct Head {
-    pub mark: u32,
-    pub kind: u32,
-    pub next: usize,
-}
-
-// Where a row of members ends, or the refusal.
-#[derive(Clone, Copy)]
-pub enum MembersEnd {
-    At(usize),
-    Refused(Refusal),
-}
-
-fn refused_member(q: Question) -> MemberValidated
-    ensures { validated_of result ≡ no q }
-{
-    MemberValidated {
-        verdict: Verdict::Refused(q),
-        mark: 0,
-        next: 0,
-    }
-}
-
-// The member with this mark and the kind of this number, whose fields are validated one by one from `at` on.
-fn validate_one_by_one(src: &[u8], at: usize, mark: u32, number: u32) -> MemberValidated
-    ensures { validated_of result ≡ marked (member_body mark number src.now at) }
+// The member with this mark and the kind of this number, whose fields come next and are validated one by one: its mark.
+#[tactic(auto, using(field_validator::proofs::Held::fields_held, crate::proofs::Members::fields_read, crate::proofs::Members::body_accepted))]
+fn validate_one_by_one(input: &mut Cursor, mark: u32, number: u32) -> Result<u32, Question>
+    ensures { Moved input.old (marked (member_body mark number input.old.src.now input.old.at)) result input.new }
 {
     let kind = kind_of(number);
-    let run = validate_fields(src, at, kind);
-    let verdict = run.verdict;
-    let fields = run.slots;
-    let v = fields.v;
-    match verdict {
-        Verdict::Refused(q) => refused_member(q),
-        Verdict::Accepted => MemberValidated {
-            verdict: member_verdict(kind, &v),
-            mark,
-            next: run.next,
-        },
-    }
+    let slots = validate_fields(input, kind)?;
+    member_verdict(kind, &slots.v)?;
+    Ok(mark)
 }
 
 // The same, faster: the fields are taken at once and put question 7 together. Where that fails, one by one finds the first no.
-fn validate_body(src: &[u8], at: usize, mark: u32, number: u32) -> MemberValidated
-    ensures { validated_of result ≡ marked (member_body mark number src.now at) }
+#[tactic(auto, using(field_validator::proofs::Taken::end_got, field_validator::proofs::Taken::taken_fields, crate::proofs::Members::body_accepted))]
+fn validate_body(input: &mut Cursor, mark: u32, number: u32) -> Result<u32, Question>
+    ensures { Moved input.old (marked (member_body mark number input.old.src.now input.old.at)) result input.new }
 {
     let kind = kind_of(number);
-    let mut v = [0u32; 40];
-    match take_fields(src, at, kind, &mut v) {
-        FieldsEnd::Refused(_) => validate_one_by_one(src, at, mark, number),
-        FieldsEnd::To(next) => {
-            if fields_hold(kind, &v) {
-                MemberValidated {
-                    verdict: member_verdict(kind, &v),
-                    mark,
-                    next,
-                }
-            } else {
-                validate_one_by_one(src, at, mark, number)
-            }
+    let first = *input;
+    let mut v = [0; 40];
+    match take_fields(input, kind, &mut v) {
+        Ok(()) if fields_hold(kind, &v) => {
+            member_verdict(kind, &v)?;
+            Ok(mark)
+        }
+        _ => {
+            *input = first;
+            validate_one_by_one(input, mark, number)
         }
     }
 }
 
 // 5: a mark in range, and above the one before.
+#[tactic(auto, unfolding(crate::specs::Members::mark_rises))]
 fn mark_rises(before: u32, mark: u32) -> bool
     ensures { result ≡ mark_rises before mark }
 {
-    and(mark_in_range(mark), before < mark)
+    mark_in_range(mark) && before < mark
 }
 
-// The mark at `at`: questions 2, 3 and 5.
-fn validate_mark(src: &[u8], at: usize, before: u32) -> Number
-    ensures { of_number result ≡ mark_at src.now at before }
+// The next member, its mark above the one before: its mark.
+fn validate_member(input: &mut Cursor, before: u32) -> Result<u32, Question>
+    ensures { Moved input.old (marked (member input.old.src.now input.old.at before)) result input.new }
 {
-    match number_at(src, at) {
-        Number::Refused(q) => Number::Refused(q),
-        Number::Value(x, next) => {
-            if mark_rises(before, x) {
-                Number::Value(x, next)
-            } else {
-                Number::Refused(Question::Mark)
-            }
-        }
+    let mark = number_that(input, Question::Mark, |x| mark_rises(before, x))?;
+    let number = number_that(input, Question::Kind, is_known)?;
+    validate_body(input, mark, number)
+}
+
+// The next member, which is accepted.
+#[tactic(auto, using(crate::proofs::Accepted::mark_got))]
+pub fn read_member(input: &mut Cursor) -> Built
+    requires { Got (member input.old.src.now input.old.at 0) }
+    ensures { Moved input.old (member input.old.src.now input.old.at 0) (Ok result) input.new }
+{
+    let mark = read_number(input);
+    let kind = read_number(input);
+    let mut v = [0; 40];
+    read_fields(input, kind_of(kind), &mut v);
+    Built {
+        mark,
+        kind,
+        fields: Slots { v },
     }
 }
 
-// The kind at `at`: questions 2, 3 and 6.
-fn validate_kind(src: &[u8], at: usize) -> Number
-    ensures { of_number result ≡ kind_at src.now at }
+// The next `count` members; or the refusal.
+#[tactic(auto, using(crate::proofs::Members::no_member, crate::proofs::Members::member_refused))]
+pub fn validate_members(input: &mut Cursor, count: u32) -> Result<(), Refusal>
+    ensures { Moved input.old (members_end (members count input.old.src.now input.old.at 0 1)) result input.new }
 {
-    match number_at(src, at) {
-        Number::Refused(q) => Number::Refused(q),
-        Number::Value(x, next) => {
-            if is_known(x) {
-                Number::Value(x, next)
-            } else {
-                Number::Refused(Question::Kind)
-            }
-        }
+    let mut before = 0;
+    for i in 1..=count {
+        before = validate_member(input, before).map_err(|q| q.at(i))?;
     }
-}
-
-// The member at `at`, its mark above the one before.
-fn validate_member(src: &[u8], at: usize, before: u32) -> MemberValidated
-    ensures { validated_of result ≡ marked (member src.now at before) }
-{
-    match validate_mark(src, at, before) {
-        Number::Refused(q) => refused_member(q),
-        Number::Value(mark, p) => match validate_kind(src, p) {
-            Number::Refused(q) => refused_member(q),
-            Number::Value(number, next) => validate_body(src, next, mark, number),
-        },
-    }
-}
-
-// The fields of the accepted member at `at` into empty slots: its mark and kind, and the place after it.
-pub fn read_member(src: &[u8], at: usize, v: &mut [u32; 40]) -> Head
-    requires { (v.old ≡ empty) × (Got (member src.now at 0)) }
-    ensures { member src.now at 0 ≡ got (placed (headed result v.new) result.next) }
-{
-    let mark = read_number(src, at);
-    let kind = read_number(src, mark.next);
-    let after = read_fields(src, kind.next, kind_of(kind.value), v);
-    Head {
-        mark: mark.value,
-        kind: kind.value,
-        next: after,
-    }
-}
-
-// `count` members from `at` on: where they end, or the refusal.
-pub fn validate_members(src: &[u8], at: usize, count: u32) -> MembersEnd
-    requires { count ≤ 500 }
-    ensures { members_end_of result ≡ members_end (members count src.now at 0 1) }
-{
-    let mut p = at;
-    let mut before: u32 = 0;
-    let mut i: u32 = 1;
-    let mut left = count;
-    while 0 < left {
-        let r = validate_member(src, p, before);
-        let verdict = r.verdict;
-        match verdict {
-            Verdict::Refused(q) => {
-                return MembersEnd::Refused(Refusal {
-                    question: q,
-                    member: i,
-                });
-            }
-            Verdict::Accepted => {
-                p = r.next;
-                before = r.mark;
-                i += 1;
-                left -= 1;
-            }
-        }
-    }
-    MembersEnd::At(p)
+    Ok(())
 }

@@ -1,5 +1,5 @@
 -- The outcome of a member's checks, and the name by which the papers print each check.
-use Rattle.std.specs.Prelude.{ℕ, List, [], ◌∷◌}
+use Rattle.std.specs.Prelude.{ℕ, List, [], ◌∷◌, None, Some, Option}
 use Rattle.outcome.specs.declared.Check.{Check}
 use Rattle.outcome.specs.declared.Check.TheVariants.{
   Passed,
@@ -21,9 +21,11 @@ use Rattle.outcome.specs.declared.Check.TheVariants.{
   Anchorage,
   Lap,
 }
-use Rattle.outcome.specs.declared.Figure.{Figure}
-use Rattle.outcome.specs.declared.Figure.TheVariants.{Reached, Unreached}
 use Rattle.outcome.specs.declared.Outcome.{Outcome}
+
+-- a figure of the line, or none where its check was not reached
+abbrev pub Figure : Type 0
+Figure = Option ℕ
 
 abbrev pub outcome : Check → Figure → Figure → Figure → Figure → Outcome
 outcome check first second third fourth =
@@ -31,19 +33,19 @@ outcome check first second third fourth =
 
 -- by the figures that were reached: none, the first, the first two, three or all four
 abbrev pub no_figure : Check → Outcome
-no_figure check = outcome check Unreached Unreached Unreached Unreached
+no_figure check = outcome check None None None None
 
 abbrev pub one_figure : Check → ℕ → Outcome
-one_figure check a = outcome check (Reached a) Unreached Unreached Unreached
+one_figure check a = outcome check (Some a) None None None
 
 abbrev pub two_figures : Check → ℕ → ℕ → Outcome
-two_figures check a b = outcome check (Reached a) (Reached b) Unreached Unreached
+two_figures check a b = outcome check (Some a) (Some b) None None
 
 abbrev pub three_figures : Check → ℕ → ℕ → ℕ → Outcome
-three_figures check a b c = outcome check (Reached a) (Reached b) (Reached c) Unreached
+three_figures check a b c = outcome check (Some a) (Some b) (Some c) None
 
 abbrev pub four_figures : Check → ℕ → ℕ → ℕ → ℕ → Outcome
-four_figures check a b c d = outcome check (Reached a) (Reached b) (Reached c) (Reached d)
+four_figures check a b c d = outcome check (Some a) (Some b) (Some c) (Some d)
 
 -- the printed word, in bytes
 abbrev pub name_of : Check → List ℕ

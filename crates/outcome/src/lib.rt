@@ -44,21 +44,15 @@ pub enum Check {
     Lap,
 }
 
-// A figure of the line, or none where its check was not reached.
-#[derive(Clone, Copy)]
-pub enum Figure {
-    Reached(u64),
-    Unreached,
-}
-
+// The check, and the figures of the line: none where a figure's check was not reached.
 // Beams: moment (N·m), shear (N), width (0.001 mm), deflection (0.01 mm); columns: axial force (N); meshes: anchorage, lap (mm).
 #[derive(Clone, Copy)]
 pub struct Outcome {
     pub check: Check,
-    pub first: Figure,
-    pub second: Figure,
-    pub third: Figure,
-    pub fourth: Figure,
+    pub first: Option<u64>,
+    pub second: Option<u64>,
+    pub third: Option<u64>,
+    pub fourth: Option<u64>,
 }
 
 // An outcome by its check and the figures that were reached: none, the first, the first two, three or all four.
@@ -66,11 +60,11 @@ pub fn no_figure(check: Check) -> Outcome
     ensures { result ≡ no_figure check }
 {
     Outcome {
-        check: check,
-        first: Figure::Unreached,
-        second: Figure::Unreached,
-        third: Figure::Unreached,
-        fourth: Figure::Unreached,
+        check,
+        first: None,
+        second: None,
+        third: None,
+        fourth: None,
     }
 }
 
@@ -78,11 +72,8 @@ pub fn one_figure(check: Check, first: u64) -> Outcome
     ensures { result ≡ one_figure check first }
 {
     Outcome {
-        check: check,
-        first: Figure::Reached(first),
-        second: Figure::Unreached,
-        third: Figure::Unreached,
-        fourth: Figure::Unreached,
+        first: Some(first),
+        ..no_figure(check)
     }
 }
 
@@ -90,11 +81,8 @@ pub fn two_figures(check: Check, first: u64, second: u64) -> Outcome
     ensures { result ≡ two_figures check first second }
 {
     Outcome {
-        check: check,
-        first: Figure::Reached(first),
-        second: Figure::Reached(second),
-        third: Figure::Unreached,
-        fourth: Figure::Unreached,
+        second: Some(second),
+        ..one_figure(check, first)
     }
 }
 
@@ -102,11 +90,8 @@ pub fn three_figures(check: Check, first: u64, second: u64, third: u64) -> Outco
     ensures { result ≡ three_figures check first second third }
 {
     Outcome {
-        check: check,
-        first: Figure::Reached(first),
-        second: Figure::Reached(second),
-        third: Figure::Reached(third),
-        fourth: Figure::Unreached,
+        third: Some(third),
+        ..two_figures(check, first, second)
     }
 }
 
@@ -114,10 +99,7 @@ pub fn four_figures(check: Check, first: u64, second: u64, third: u64, fourth: u
     ensures { result ≡ four_figures check first second third fourth }
 {
     Outcome {
-        check: check,
-        first: Figure::Reached(first),
-        second: Figure::Reached(second),
-        third: Figure::Reached(third),
-        fourth: Figure::Reached(fourth),
+        fourth: Some(fourth),
+        ..three_figures(check, first, second, third)
     }
 }

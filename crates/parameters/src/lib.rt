@@ -9,7 +9,6 @@ ghost use Rattle.material.specs.Bounds.{UsableSteel};
 ghost use Rattle.parameters.specs.Parameters.{limit_of, depth_limit, parameters_of};
 
 use material::{Steel, steel_of};
-use quantity::{saturating_sub, widen};
 
 // A depth limit ξb as a fraction.
 #[derive(Clone, Copy)]
@@ -30,7 +29,7 @@ pub struct Parameters {
 fn above_c50(grade: u32) -> u64
     ensures { result ≡ grade - 50 }
 {
-    saturating_sub(widen(grade), 50)
+    (grade as u64).saturating_sub(50)
 }
 
 // e up to C50, GB 6.2.7's fraction above it.
@@ -40,7 +39,7 @@ fn depth_limit(grade: u32, steel: Steel) -> DepthLimit
 {
     if grade <= 50 {
         return DepthLimit {
-            num: widen(steel.depthLimit),
+            num: steel.depthLimit as u64,
             den: 100,
         };
     }

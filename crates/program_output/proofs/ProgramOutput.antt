@@ -1,4 +1,5 @@
 -- The two ways out of `print_schedule`.
+use Rattle.std.specs.Prelude.{Err, Ok}
 use Prim.Native.Nat.{ℕ, ◌^◌, ◌≤◌, ◌<◌}
 use mathlib.Core.Path.{◌≡◌, refl, sym, ap, ap₂, ◌∙◌}
 use mathlib.Core.List.{List, ◌++◌}
@@ -20,8 +21,7 @@ use Rattle.question.specs.Reading.{Reading, got}
 use Rattle.question.specs.Reading as reading
 use Rattle.schedule.specs.Schedule.{schedule}
 use Rattle.schedule.proofs.Accepted.{schedule_accepted}
-use Rattle.text_answer.specs.declared.TextAnswer.{TextAnswer}
-use Rattle.text_answer.specs.declared.TextAnswer.TheVariants.{Written, Refused}
+use Rattle.text_answer.specs.Printed.{TextAnswer}
 use Rattle.report_text.specs.ReportText.{report_text}
 use Rattle.text_answer.specs.Printed.{Numbers, numbers_of, text_too_long, ask_room, answered, buffer_after}
 use Rattle.text_answer.specs.Printed.{written as writtenTo, refused as refusedBy}
@@ -114,14 +114,14 @@ module _ (full : Refusal) (d d' : List ℕ) (n : ℕ) where
 -- ---- Of a schedule's bytes.
 
 module _ (s d d' : List ℕ) (n : ℕ) where
-  pub was_written : (a : TextAnswer) → a ≡ Written n → length d < last_position → Reported s d d' a → PrintedSchedule s d d' n
+  pub was_written : (a : TextAnswer) → a ≡ Ok n → length d < last_position → Reported s d d' a → PrintedSchedule s d d' n
   unfolding output_of
   was_written a e k p =
       let o = written (text_too_long 0) d d' n (report_of s) k (ap numbers_of (sym e) ∙ p.answer_is) p.buffer_is in
       record { put = o.put; whole = o.whole; claim = λ ms f _. rw e at (p.claim ms f (rw e)) }
 
   -- k is the question's number as the code has it; it and the member's have at most ten digits
-  pub was_refused : (a : TextAnswer) (r : Refusal) (k : ℕ) (d₁ : List ℕ) → a ≡ Refused r → k < 10 ^ 10 → r.member < 10 ^ 10 → k ≡ number_of r.question →
+  pub was_refused : (a : TextAnswer) (r : Refusal) (k : ℕ) (d₁ : List ℕ) → a ≡ Err r → k < 10 ^ 10 → r.member < 10 ^ 10 → k ≡ number_of r.question →
       Reported s d d₁ a → Put d₁ 0 (line_text (refusal_words k r.member)) d' n → PrintedSchedule s d d' n
   unfolding output_of
   was_refused a r k d₁ i h g e p w =

@@ -4,19 +4,19 @@
 ghost use Rattle.program_output.specs.ProgramOutput.{PrintedSchedule};
 
 use line::put_refusal;
-use question::number_of;
 use report::report;
-use text_answer::TextAnswer;
+use text::Writer;
 
 // The report of a schedule's bytes, or `refused N member M`, from the buffer's first byte on: how many bytes.
 pub fn print_schedule(src: &[u8], out: &mut [u8]) -> usize
     ensures { PrintedSchedule src.now out.old out.new result }
 {
     match report(src, out) {
-        TextAnswer::Written(n) => n,
-        TextAnswer::Refused(r) => {
-            let question = r.question;
-            put_refusal(out, 0, number_of(question), r.member)
+        Ok(n) => n,
+        Err(r) => {
+            let mut w = Writer::new(out);
+            put_refusal(&mut w, u32::from(r.question), r.member);
+            w.at
         }
     }
 }

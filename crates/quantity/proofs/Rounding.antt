@@ -1,8 +1,9 @@
 -- Laws of rounding, for any divisor.
-use Prim.Native.Nat.{ℕ, ◌+◌, ◌-◌, ◌*◌, ◌/◌, ◌<◌, ◌≤◌}
+use Prim.Native.Nat.{ℕ, ◌+◌, ◌-◌, ◌*◌, ◌/◌, ◌%◌, ◌<◌, ◌≤◌, min}
 use mathlib.Core.Path.{◌≡◌}
 use native.Mathlib.Nat.{mul-add, add-mul, mul_assoc, mul_comm, mul_left_comm, mul-pos, mul-le-mul_right, lt_of_mul-lt-mul_right, div-mul-le_self, lt-div-mul-add}
 use native.Mathlib.Omega.{arith}
+use Rattle.std.proofs.lemmas.Grind.{div_ceil_times}
 use Rattle.quantity.specs.Rounding.{up, down}
 
 -- Products written out: `simp expand (omega arith)` compares polynomials, with their monomials as unknowns.
@@ -57,17 +58,11 @@ down_is {n} {d} {u} p a b =
     let t : down n d * d < (u + 1) * d = omega (arith, down_below n d) in
     omega (arith, lt_of_mul-lt-mul_right d t, le_down p a)
 
--- How code finds the rounding up: the quotient, and one more where that falls short.
-pub up_by_more : (n d : ℕ) → 0 < d → n / d * d < n → n / d + 1 ≡ up n d
-up_by_more n d p h =
-    omega (
-      arith,
-      up_is {n = n} {u = n / d + 1} p
-          (simp expand (omega (arith, simp expand at (lt-div-mul-add {a = n} p)))) (simp expand (omega (arith, simp expand at h))),
-    )
-
-pub up_by_same : (n d : ℕ) → 0 < d → n ≤ n / d * d → n / d ≡ up n d
-up_by_same n d p h = omega (arith, up_is {n = n} {u = n / d} p h (omega (arith, div-mul-le_self n d)))
+-- `div_ceil` is the rounding up.
+pub up_by_ceil : (n d : ℕ) → 0 < d → n / d + min 1 (n % d) ≡ up n d
+up_by_ceil n d p =
+    let b : (n ≤ (n / d + min 1 (n % d)) * d) × ((n / d + min 1 (n % d)) * d < n + d) = div_ceil_times n d p in
+    omega (arith, up_is p b.0 b.1)
 
 -- ---- A multiple of the divisor.
 

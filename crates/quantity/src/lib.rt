@@ -5,6 +5,8 @@ ghost use Rattle.std.specs.Prelude.{◌≡◌, ◌&&◌, ◌||◌, ◌+◌, ◌-
 ghost use Rattle.quantity.specs.Rounding.{up, down, clamp};
 ghost use Rattle.quantity.specs.Unit.{newtons, millimetres, stress_of, stress_of_tenths, stress_of_hundredths, in_units, in_tenths, in_hundredths};
 
+use std::ops::Add;
+
 // n / d, rounded down.
 pub fn div_down(n: u64, d: u64) -> u64
     requires { 0 < d }
@@ -18,41 +20,14 @@ pub fn div_up(n: u64, d: u64) -> u64
     requires { 0 < d }
     ensures { result ≡ up n d }
 {
-    let q = n / d;
-    if q * d < n { q + 1 } else { q }
+    n.div_ceil(d)
 }
 
-pub fn smaller(a: u64, b: u64) -> u64
-    ensures { result ≡ min a b }
-{
-    if a < b { a } else { b }
-}
-
-pub fn larger(a: u64, b: u64) -> u64
-    ensures { result ≡ max a b }
-{
-    if a < b { b } else { a }
-}
-
-// Saturating subtraction: a - b, and 0 where b is the larger one.
-pub fn saturating_sub(a: u64, b: u64) -> u64
-    ensures { result ≡ a - b }
-{
-    if a < b { 0 } else { a - b }
-}
-
-// The value that a test picks.
-pub fn select(test: bool, yes: u64, no: u64) -> u64
-    ensures { result ≡ (if test then yes else no) }
-{
-    if test { yes } else { no }
-}
-
-// x held to lo .. hi.
+// x held to lo .. hi; hi where lo is above it, which `u64::clamp` does not take.
 pub fn clamped(lo: u64, hi: u64, x: u64) -> u64
     ensures { result ≡ clamp lo hi x }
 {
-    smaller(hi, larger(lo, x))
+    x.max(lo).min(hi)
 }
 
 // Saturating subtraction without a branch. 2^32 + a - b reaches 2^32 exactly where a is at least b: its quotient by 2^32 is then
@@ -83,31 +58,12 @@ pub fn branchless_clamped(lo: u32, hi: u32, x: u32) -> u32
     branchless_smaller(hi, branchless_larger(lo, x))
 }
 
-// `and`, `or` and `widen` are operators as functions: a proof cites their contracts.
-pub fn and(a: bool, b: bool) -> bool
-    ensures { result ≡ (a && b) }
-{
-    if a { b } else { false }
-}
-
-pub fn or(a: bool, b: bool) -> bool
-    ensures { result ≡ (a || b) }
-{
-    if a { true } else { b }
-}
-
-pub fn widen(x: u32) -> u64
-    ensures { result ≡ x }
-{
-    x as u64
-}
-
 // Newtons.
-#[derive(Clone, Copy)]
+#[derive(Clone, Copy, PartialEq, Eq, PartialOrd, Ord)]
 pub struct Force(pub u64);
 
 // Millimetres.
-#[derive(Clone, Copy)]
+#[derive(Clone, Copy, PartialEq, Eq, PartialOrd, Ord)]
 pub struct Length(pub u64);
 
 // Hundredths of a newton per square millimetre.
@@ -126,11 +82,16 @@ impl Force {
     {
         self.0
     }
+}
 
-    pub fn plus(self, other: Force) -> Force
-        requires { self.0 + other.0 < 2 ^ 64 }
-        ensures { result ≡ newtons (self.0 + other.0) }
-    {
+impl Add for Force {
+    type Output = Force;
+
+    ghost can_add = { λ f g. f.0 + g.0 < 2 ^ 64 };
+
+    ghost add_gives = { λ f g sum. sum ≡ newtons (f.0 + g.0) };
+
+    fn add(self, other: Force) -> Force {
         Force(self.0 + other.0)
     }
 }
@@ -149,10 +110,10 @@ impl Length {
     }
 
     // The length that is left of this one, 0 where the other is longer.
-    pub fn minus(self, other: Length) -> Length
+    pub fn saturating_sub(self, other: Length) -> Length
         ensures { result ≡ millimetres (self.0 - other.0) }
     {
-        Length(saturating_sub(self.0, other.0))
+        Length(self.0.saturating_sub(other.0))
     }
 }
 

@@ -1,9 +1,7 @@
 -- What a reading comes to: a value, or the first question that is answered no.
-use Rattle.std.specs.Prelude.{ℕ, Bool, if◌then◌else◌}
+use Rattle.std.specs.Prelude.{ℕ, Bool, if◌then◌else◌, Err, Ok, Result}
 use Rattle.question.specs.declared.Question.{Question}
 use Rattle.question.specs.declared.Refusal.{Refusal}
-use Rattle.question.specs.declared.Verdict.{Verdict}
-use Rattle.question.specs.declared.Verdict.TheVariants.{Accepted, Refused}
 
 pub data Reading (N A : Type 0) : Type 0 where
   got : A → Reading N A
@@ -23,10 +21,14 @@ and_then (no q) f = no q
 abbrev pub ask : {N A : Type 0} → N → Bool → Reading N A → Reading N A
 ask q holds next = if holds then next else no q
 
+-- what questions put one after the other come to: all are passed, or the first that is answered no
+abbrev pub Verdict : Type 0
+Verdict = Result (Unit {0}) Question
+
 -- a verdict on what was read
 abbrev pub passed : {A : Type 0} → Verdict → Reading Question A → Reading Question A
-passed Accepted next = next
-passed (Refused q) next = no q
+passed (Ok tt) next = next
+passed (Err q) next = no q
 
 -- a no of member i names it
 abbrev pub refusal : Question → ℕ → Refusal

@@ -4,8 +4,9 @@
 
 ghost use Rattle.std.specs.Prelude.{◌≡◌};
 ghost use Rattle.question.specs.Question.{number_of};
+ghost use Rattle.question.specs.Reading.{refusal};
 
-#[derive(Clone, Copy)]
+#[derive(Clone, Copy, PartialEq, Eq)]
 pub enum Question {
     // 1: is the schedule at most 60,000 bytes?
     Size,
@@ -37,14 +38,6 @@ pub enum Question {
     ServiceMoment,
 }
 
-// What questions put one after the other come to.
-#[derive(Clone, Copy)]
-pub enum Verdict {
-    Accepted,
-    // the first question that is answered no
-    Refused(Question),
-}
-
 // A no: the question, and the member's place in the schedule, from 1.
 // The place is 0 for questions 1, 4, 11, 12 and 13 of a schedule, and for 2 and 3 put to the count itself; a built member's refusals all have 1.
 #[derive(Clone, Copy)]
@@ -53,24 +46,38 @@ pub struct Refusal {
     pub member: u32,
 }
 
+impl Question {
+    // A no to this question that names this member.
+    pub fn at(self, member: u32) -> Refusal
+        ensures { result ≡ refusal self member }
+    {
+        Refusal {
+            question: self,
+            member,
+        }
+    }
+}
+
 // The number by which the papers name a question.
-pub fn number_of(q: Question) -> u32
-    ensures { result ≡ number_of q }
-{
-    match q {
-        Question::Size => 1,
-        Question::NumberEnds => 2,
-        Question::NumberForm => 3,
-        Question::Count => 4,
-        Question::Mark => 5,
-        Question::Kind => 6,
-        Question::Field => 7,
-        Question::Consistency => 8,
-        Question::Bars => 9,
-        Question::Ratio => 10,
-        Question::Trailing => 11,
-        Question::Buffer => 12,
-        Question::File => 13,
-        Question::ServiceMoment => 14,
+impl From<Question> for u32 {
+    ghost from_gives = { λ q n. n ≡ number_of q };
+
+    fn from(q: Question) -> u32 {
+        match q {
+            Question::Size => 1,
+            Question::NumberEnds => 2,
+            Question::NumberForm => 3,
+            Question::Count => 4,
+            Question::Mark => 5,
+            Question::Kind => 6,
+            Question::Field => 7,
+            Question::Consistency => 8,
+            Question::Bars => 9,
+            Question::Ratio => 10,
+            Question::Trailing => 11,
+            Question::Buffer => 12,
+            Question::File => 13,
+            Question::ServiceMoment => 14,
+        }
     }
 }

@@ -6,19 +6,17 @@ use native.Mathlib.Omega.{arith}
 use lib.Dec.{T, leb, eqb}
 use lib.Ieee.{Float}
 use borrow.Author.Tests.{eqb-false}
-use Rattle.std.specs.Prelude.{if◌then◌else◌}
+use Rattle.std.specs.Prelude.{if◌then◌else◌, None, Some}
 use Rattle.quantity.proofs.Choice.{if_case}
-use Rattle.outcome.specs.declared.Figure.{Figure}
-use Rattle.outcome.specs.declared.Figure.TheVariants.{Reached, Unreached}
+use Rattle.outcome.specs.Outcome.{Figure}
 use Rattle.outcome.specs.Safe.{WhereReached}
-use Rattle.ratio.specs.declared.Ratio.{Ratio}
-use Rattle.ratio.specs.Ratio.{quotient, nearest, no_ratio, ratio, over_figure, over_limit, ExactFigure, Decides, finite_nonneg}
+use Rattle.ratio.specs.Ratio.{Ratio, quotient, nearest, no_ratio, ratio, over_figure, over_limit, ExactFigure, Decides, finite_nonneg}
 use Rattle.ratio.proofs.Division.{quotient_nearest, at_most_one, nearest_nonneg}
 
 -- a figure, where it was reached, is n
 abbrev pub Is : ℕ → Figure → Type 0
-Is n (Reached v) = v ≡ n
-Is n Unreached = Unit {0}
+Is n (Some v) = v ≡ n
+Is n None = Unit {0}
 
 some : (b : ℕ) → eqb b 0 ≡ false → 0 < b
 some b e = let n = eqb-false b 0 e in omega arith
@@ -40,29 +38,29 @@ ratio_decides a b k =
 
 pub figure_nearest : (a : ℕ) (f : Figure) → a < 2 ^ 53 → ExactFigure f → over_figure quotient a f ≡ over_figure nearest a f
 unfolding over_figure
-figure_nearest a (Reached v) h k = ratio_nearest a v h k
-figure_nearest a Unreached h k = refl
+figure_nearest a (Some v) h k = ratio_nearest a v h k
+figure_nearest a None h k = refl
 
 pub limit_nearest : (f : Figure) (b : ℕ) → ExactFigure f → b < 2 ^ 53 → over_limit quotient f b ≡ over_limit nearest f b
 unfolding over_limit
-limit_nearest (Reached v) b h k = ratio_nearest v b h k
-limit_nearest Unreached b h k = refl
+limit_nearest (Some v) b h k = ratio_nearest v b h k
+limit_nearest None b h k = refl
 
 pub figure_decides : (a n : ℕ) (f : Figure) → ExactFigure f → Is n f → Decides (over_figure nearest a f).reached (over_figure nearest a f).value (leb a n)
 unfolding over_figure
-figure_decides a n (Reached v) h e = rw (← e) (ratio_decides a v h)
-figure_decides a n Unreached h e = λ r. absurd (false≢true r)
+figure_decides a n (Some v) h e = rw (← e) (ratio_decides a v h)
+figure_decides a n None h e = λ r. absurd (false≢true r)
 
 pub limit_decides : (f : Figure) (n b : ℕ) → Is n f → b < 2 ^ 53 → Decides (over_limit nearest f b).reached (over_limit nearest f b).value (leb n b)
 unfolding over_limit
-limit_decides (Reached v) n b e k = rw (← e) (ratio_decides v b k)
-limit_decides Unreached n b e k = λ r. absurd (false≢true r)
+limit_decides (Some v) n b e k = rw (← e) (ratio_decides v b k)
+limit_decides None n b e k = λ r. absurd (false≢true r)
 
 -- a utilization over a figure was reached only where the figure was
 pub figure_where_reached : (over : ℕ → ℕ → Float) (a : ℕ) (f : Figure) {P : Type 0} → WhereReached f P → (over_figure over a f).reached ≡ true → P
 unfolding over_figure
-figure_where_reached over a (Reached v) h r = h
-figure_where_reached over a Unreached h r = absurd (false≢true r)
+figure_where_reached over a (Some v) h r = h
+figure_where_reached over a None h r = absurd (false≢true r)
 
 -- ---- Finite and not negative.
 
@@ -80,10 +78,10 @@ ratio_nonneg a b h =
 
 pub figure_nonneg : (a : ℕ) (f : Figure) → a < 2 ^ 53 → FairRatio (over_figure nearest a f)
 unfolding over_figure
-figure_nonneg a (Reached v) h = ratio_nonneg a v h
-figure_nonneg a Unreached h = no_ratio_nonneg
+figure_nonneg a (Some v) h = ratio_nonneg a v h
+figure_nonneg a None h = no_ratio_nonneg
 
 pub limit_nonneg : (f : Figure) (b : ℕ) → ExactFigure f → FairRatio (over_limit nearest f b)
 unfolding over_limit
-limit_nonneg (Reached v) b h = ratio_nonneg v b h
-limit_nonneg Unreached b h = no_ratio_nonneg
+limit_nonneg (Some v) b h = ratio_nonneg v b h
+limit_nonneg None b h = no_ratio_nonneg

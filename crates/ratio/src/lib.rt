@@ -2,9 +2,7 @@
 #![tactic(auto)]
 
 ghost use Rattle.std.specs.Prelude.{◌≡◌, ◌<◌, ◌^◌};
-ghost use Rattle.ratio.specs.Ratio.{quotient, no_ratio, ratio, over_figure, over_limit, four_ratios, ExactFigure};
-
-use outcome::Figure;
+ghost use Rattle.ratio.specs.Ratio.{quotient, as_ratio, ratio, over_figure, over_limit, four_ratios, ExactFigure};
 
 // Beams: moment, shear, width, deflection; columns: axial force; meshes: anchorage, lap. A value is 0.0 where its mark is false.
 #[repr(C)]
@@ -20,13 +18,6 @@ pub struct Utilization {
     pub fourthReached: bool,
 }
 
-// One of the four: none where the figure was not reached or the divisor is 0.
-#[derive(Clone, Copy)]
-pub struct Ratio {
-    pub value: f64,
-    pub reached: bool,
-}
-
 // Whole numbers below 2^53: the casts lose nothing, and the one division rounds.
 fn divided(a: u64, b: u64) -> f64
     requires { (a < 2 ^ 53) × (b < 2 ^ 53) }
@@ -35,63 +26,45 @@ fn divided(a: u64, b: u64) -> f64
     (a as f64) / (b as f64)
 }
 
-pub fn no_ratio() -> Ratio
-    ensures { result ≡ no_ratio }
-{
-    Ratio {
-        value: 0.0,
-        reached: false,
-    }
-}
-
-// a over b.
-fn ratio_of(a: u64, b: u64) -> Ratio
+// a over b, none where b is 0.
+#[tactic(auto, unfolding(crate::specs::Ratio::ratio))]
+fn ratio_of(a: u64, b: u64) -> Option<f64>
     requires { (a < 2 ^ 53) × (b < 2 ^ 53) }
-    ensures { result ≡ ratio quotient a b }
+    ensures { as_ratio result ≡ ratio quotient a b }
 {
-    if b == 0 {
-        no_ratio()
-    } else {
-        Ratio {
-            value: divided(a, b),
-            reached: true,
-        }
-    }
+    if b == 0 { None } else { Some(divided(a, b)) }
 }
 
-// A capacity's: demand over figure.
-pub fn over_figure(demand: u64, f: Figure) -> Ratio
+// A capacity's: demand over figure; none where the figure was not reached.
+#[tactic(auto, unfolding(crate::specs::Ratio::over_figure))]
+pub fn over_figure(demand: u64, f: Option<u64>) -> Option<f64>
     requires { (demand < 2 ^ 53) × (ExactFigure f) }
-    ensures { result ≡ over_figure quotient demand f }
+    ensures { as_ratio result ≡ over_figure quotient demand f }
 {
-    match f {
-        Figure::Reached(v) => ratio_of(demand, v),
-        Figure::Unreached => no_ratio(),
-    }
+    ratio_of(demand, f?)
 }
 
-// Of a width, a deflection or a length: figure over limit.
-pub fn over_limit(f: Figure, limit: u64) -> Ratio
+// Of a width, a deflection or a length: figure over limit; none where the figure was not reached.
+#[tactic(auto, unfolding(crate::specs::Ratio::over_limit))]
+pub fn over_limit(f: Option<u64>, limit: u64) -> Option<f64>
     requires { (ExactFigure f) × (limit < 2 ^ 53) }
-    ensures { result ≡ over_limit quotient f limit }
+    ensures { as_ratio result ≡ over_limit quotient f limit }
 {
-    match f {
-        Figure::Reached(v) => ratio_of(v, limit),
-        Figure::Unreached => no_ratio(),
-    }
+    ratio_of(f?, limit)
 }
 
-pub fn together(a: Ratio, b: Ratio, c: Ratio, d: Ratio) -> Utilization
-    ensures { result ≡ four_ratios a b c d }
+// The record for callers in C: 0.0 and a false mark where there is none.
+pub fn together(a: Option<f64>, b: Option<f64>, c: Option<f64>, d: Option<f64>) -> Utilization
+    ensures { result ≡ four_ratios (as_ratio a) (as_ratio b) (as_ratio c) (as_ratio d) }
 {
     Utilization {
-        first: a.value,
-        second: b.value,
-        third: c.value,
-        fourth: d.value,
-        firstReached: a.reached,
-        secondReached: b.reached,
-        thirdReached: c.reached,
-        fourthReached: d.reached,
+        first: a.unwrap_or(0.0),
+        second: b.unwrap_or(0.0),
+        third: c.unwrap_or(0.0),
+        fourth: d.unwrap_or(0.0),
+        firstReached: a.is_some(),
+        secondReached: b.is_some(),
+        thirdReached: c.is_some(),
+        fourthReached: d.is_some(),
     }
 }

@@ -1,15 +1,11 @@
 -- The report of a schedule and of one built member, or the refusal.
 -- (document 01, "One schedule, printed")
-use Rattle.std.specs.Prelude.{ℕ, List}
+use Rattle.std.specs.Prelude.{ℕ, List, Err, Ok}
 use Rattle.question.specs.declared.Refusal.{Refusal}
-use Rattle.varint.specs.declared.Number.{Number}
-use Rattle.varint.specs.declared.Number.TheVariants.{Value}
-use Rattle.varint.specs.declared.Number.TheVariants as numbers
 use Rattle.member.specs.Member.{Member}
 use Rattle.verdict.specs.declared.Built.{Built}
 use Rattle.verdict.specs.Built.{member_of}
-use Rattle.question.specs.declared.Verdict.{Verdict}
-use Rattle.question.specs.declared.Verdict.TheVariants as verdicts
+use Rattle.question.specs.Reading.{Verdict}
 use Rattle.verdict.specs.Verdict.{built_verdict}
 use Rattle.question.specs.Reading.{Reading, got, no, refusal}
 use Rattle.schedule.specs.Schedule.{schedule}
@@ -25,13 +21,8 @@ report_of src = report_or_no (schedule src)
 
 -- of a built member; every refusal names member 1
 abbrev pub line_or_no : Verdict → Member → Reading Refusal (List ℕ)
-line_or_no verdicts.Accepted m = got (member_text m)
-line_or_no (verdicts.Refused q) m = no (refusal q 1)
+line_or_no (Ok tt) m = got (member_text m)
+line_or_no (Err q) m = no (refusal q 1)
 
 unfoldable pub member_report_of : Built → Reading Refusal (List ℕ)
 member_report_of x = line_or_no (built_verdict x.mark x.kind x.fields.v) (member_of x)
-
--- the place after a number
-abbrev pub after_number : Number → ℕ
-after_number (Value x next) = next
-after_number (numbers.Refused q) = 0

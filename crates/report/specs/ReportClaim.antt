@@ -7,7 +7,7 @@ use Rattle.verdict.specs.Built.{member_of}
 use Rattle.question.specs.Reading.{got}
 use Rattle.schedule.specs.Schedule.{schedule}
 use Rattle.checks.specs.LineClaim.{SafeLine}
-use Rattle.text_answer.specs.declared.TextAnswer.{TextAnswer}
+use Rattle.text_answer.specs.Printed.{TextAnswer}
 use Rattle.text_answer.specs.Printed.{numbers_of, text_too_long, answered, buffer_after}
 use Rattle.report.specs.Report.{report_of, member_report_of}
 

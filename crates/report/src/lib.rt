@@ -1,55 +1,27 @@
 // The report of a schedule, and the line of one built member, into a lent buffer.
 #![tactic(auto)]
 
-ghost use Rattle.std.specs.Prelude.{◌≡◌};
-ghost use Rattle.varint.specs.Varint.{number_at};
-ghost use Rattle.report.specs.Report.{after_number};
 ghost use Rattle.report.specs.ReportClaim.{Reported, MemberReported};
 
 use checks::check_member;
-use field_table::kind_of;
-use question::{Refusal, Verdict};
+use question::Refusal;
 use report_text::print_report;
 use schedule::validate_schedule;
-use text_answer::{TextAnswer, print_line};
-use varint::{Number, number_at};
-use verdict::{Built, built_verdict};
-
-// Where the members start: after their count.
-fn members_start(src: &[u8]) -> usize
-    ensures { result ≡ after_number (number_at src.now 0) }
-{
-    match number_at(src, 0) {
-        Number::Value(_, next) => next,
-        Number::Refused(_) => 0,
-    }
-}
+use text_answer::print_line;
+use verdict::Built;
 
 // The report of a schedule's bytes.
-pub fn report(src: &[u8], out: &mut [u8]) -> TextAnswer
+pub fn report(src: &[u8], out: &mut [u8]) -> Result<usize, Refusal>
     ensures { Reported src.now out.old out.new result }
 {
-    match validate_schedule(src) {
-        schedule::ScheduleAnswer::Refused(r) => TextAnswer::Refused(r),
-        schedule::ScheduleAnswer::Accepted(count) => print_report(
-            src,
-            members_start(src),
-            count,
-            out,
-        ),
-    }
+    print_report(validate_schedule(src)?, out)
 }
 
 // The line of a member that a caller built.
-pub fn member_report(x: Built, out: &mut [u8]) -> TextAnswer
+#[tactic(auto, using(crate::proofs::ReportClaim::member_refused))]
+pub fn member_report(x: Built, out: &mut [u8]) -> Result<usize, Refusal>
     ensures { MemberReported x out.old out.new result }
 {
-    let v = x.fields.v;
-    match built_verdict(x.mark, x.kind, &v) {
-        Verdict::Refused(q) => TextAnswer::Refused(Refusal {
-            question: q,
-            member: 1,
-        }),
-        Verdict::Accepted => print_line(x.mark, check_member(x.mark, kind_of(x.kind), &v), out),
-    }
+    let member = x.validate().map_err(|q| q.at(1))?;
+    print_line(member.mark, check_member(&member), out)
 }

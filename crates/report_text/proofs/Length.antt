@@ -11,15 +11,13 @@ use Rattle.line.proofs.Length.{line_short, head_short, text_short}
 use Rattle.member.specs.Member.{Member, beam, column, mesh}
 use Rattle.member.specs.Accepted.{AcceptedMember, AcceptedMembers}
 use Rattle.question.specs.declared.Question.{Question}
-use Rattle.field_table.specs.Fields.{kind_of}
+use Rattle.field_layout.specs.declared.valid.ValidMember.{ValidMember}
+use Rattle.field_layout.specs.Valid.{valid_member}
 use Rattle.verdict.specs.declared.Built.{Built}
-use Rattle.question.specs.declared.Verdict.TheVariants.{Accepted}
 use Rattle.verdict.specs.Built.{member_of}
-use Rattle.verdict.specs.Verdict.{built_verdict}
-use Rattle.verdict.proofs.Accepted.{accepted_built}
 use Rattle.outcome.specs.declared.Outcome.{Outcome}
 use Rattle.question.specs.Reading.{Reading, got, no}
-use Rattle.field_validator.specs.Placed.{Placed}
+use Rattle.varint.specs.Placed.{Placed}
 use Rattle.members.specs.Members.{member}
 use Rattle.members.proofs.Accepted.{member_was}
 use Rattle.checks.specs.MemberOutcome.{mark_of, outcome_of}
@@ -38,10 +36,8 @@ member_line_short m a =
     let f = member_short m a in
     line_short 6 9 (mark_of m) (outcome_of m) (omega arith) (omega arith) (mark_short m a) f.first f.second f.third f.fourth
 
-pub line_fits : (x : Built) (o : Outcome) → built_verdict x.mark x.kind x.fields.v ≡ Accepted → o ≡ outcome_of (member_of x) →
-    length (line_text (line_words x.mark o)) ≤ 55
-line_fits x o v e =
-    rw (← mark_of_lem x.mark (kind_of x.kind) x.fields.v, e) (member_line_short (member_of x) (accepted_built x.mark x.kind x.fields.v v))
+pub line_fits : (m : ValidMember) (o : Outcome) → o ≡ outcome_of (valid_member m) → length (line_text (line_words m.mark o)) ≤ 55
+line_fits m o e = rw (← mark_of_lem m.mark m.kind m.fields.v, e) (member_line_short (valid_member m) m.accepted)
 
 lines_short : (ms : List Member) → AcceptedMembers ms → All (λ l. length (line_text l) ≤ 55) (map (λ m. line_words (mark_of m) (outcome_of m)) ms)
 lines_short ms a = all_map AcceptedMember _ (λ m. line_words (mark_of m) (outcome_of m)) member_line_short ms a

@@ -5,10 +5,10 @@ use mathlib.Core.List.{List, [], ◌∷◌, ◌++◌, map}
 use native.Mathlib.Omega.{arith}
 use lib.ListN.{length}
 use Rattle.text.specs.Text.{text_of, ended_by}
-use Rattle.text.specs.Put.{Put}
+use Rattle.text.specs.declared.Writer.{Writer}
+use Rattle.text.specs.Wrote.{Wrote}
 use Rattle.line.specs.Line.{line_words, head_words, line_text}
 use Rattle.line.proofs.Text.{text_append}
-use Rattle.question.specs.declared.Question.{Question}
 use Rattle.outcome.specs.declared.Outcome.{Outcome}
 use Rattle.member.specs.Member.{Member}
 use Rattle.field_table.specs.declared.MemberKind.{MemberKind}
@@ -17,13 +17,13 @@ use Rattle.field_table.specs.Fields.{kind_of}
 use Rattle.verdict.specs.declared.Built.{Built}
 use Rattle.field_layout.specs.Layout.{member_at}
 use Rattle.verdict.specs.Built.{member_of}
-use Rattle.question.specs.Reading.{Reading, got, no, Got}
-use Rattle.field_validator.specs.Placed.{placed, Placed}
+use Rattle.question.specs.Reading.{got}
+use Rattle.varint.specs.Placed.{placed, Placed}
 use Rattle.members.specs.Members.{member, members}
 use Rattle.members.proofs.Members.{first_read, members_length}
 use Rattle.members.proofs.Accepted.{any_before}
 use Rattle.checks.specs.MemberOutcome.{mark_of, outcome_of}
-use Rattle.report_text.specs.ReportText.{report_text, member_text, AcceptedThen, AcceptedFrom, lines_from}
+use Rattle.report_text.specs.ReportText.{report_text, member_text, lines_from}
 
 -- ---- One turn.
 
@@ -31,26 +31,12 @@ pub lines_none : (n : ℕ) (s : List ℕ) (p : ℕ) → n ≤ 0 → lines_from n
 unfolding lines_from
 lines_none n s p h = let e : n ≡ 0 = omega arith in rw e
 
-module _ (n : ℕ) (s : List ℕ) (p : ℕ) (h : 0 < n) where
-  one_less : n ≡ suc (n - 1)
-  one_less = omega arith
-
-  pub first_accepted : AcceptedFrom n s p → Got (member s p 0)
-  unfolding AcceptedFrom Got
-  first_accepted a = go (member s p 0) (rw one_less at a)
-    where
-      go : (o : Reading Question (Placed Built)) → AcceptedThen o (λ b. AcceptedFrom (n - 1) s b.next) → Got o
-      go (got b) a = tt
-      go (no q) a = a
-
-  module _ (b : Built) (next : ℕ) (e : member s p 0 ≡ got (placed b next)) where
-    pub others_accepted : AcceptedFrom n s p → AcceptedFrom (n - 1) s next
-    unfolding AcceptedFrom
-    others_accepted a = rw (one_less, e) at a
-
-    pub lines_more : lines_from n s p ≡ member_text (member_of b) ++ lines_from (n - 1) s next
-    unfolding lines_from
-    lines_more = ap (λ (k : ℕ). lines_from k s p) one_less ∙ rw e
+pub lines_more : (n : ℕ) (s : List ℕ) (p : ℕ) → 0 < n → (b : Built) (next : ℕ) → member s p 0 ≡ got (placed b next)
+    → lines_from n s p ≡ member_text (member_of b) ++ lines_from (n - 1) s next
+unfolding lines_from
+lines_more n s p h b next e =
+    let one_less : n ≡ suc (n - 1) = omega arith in
+    ap (λ (k : ℕ). lines_from k s p) one_less ∙ rw e
 
 -- the mark of a member in slots
 pub mark_of_lem : (mark : ℕ) (kind : MemberKind) (v : List ℕ) → mark_of (member_at mark kind v) ≡ mark
@@ -60,30 +46,27 @@ mark_of_lem mark kinds.Column v = refl
 mark_of_lem mark kinds.Mesh v = refl
 
 -- what is put for a member is its text
-pub put_member : (b : Built) {d d' : List ℕ} {at r : ℕ} (o : Outcome) → o ≡ outcome_of (member_of b) →
-    Put d at (line_text (line_words b.mark o)) d' r → Put d at (member_text (member_of b)) d' r
-put_member b o e w = rw (mark_of_lem b.mark (kind_of b.kind) b.fields.v, ← e) w
+pub wrote_member : (b : Built) {w w' : Writer} (o : Outcome) → o ≡ outcome_of (member_of b) →
+    Wrote w (line_text (line_words b.mark o)) w' → Wrote w (member_text (member_of b)) w'
+wrote_member b o e h = rw (mark_of_lem b.mark (kind_of b.kind) b.fields.v, ← e) h
 
 -- ---- All of them.
 
--- members that were read are accepted, and their lines are the report's
+-- the lines of members that were read are the report's
 pub members_lines : (n : ℕ) (s : List ℕ) (p before i : ℕ) (ms : List Member) (end : ℕ) → members n s p before i ≡ got (placed ms end) →
-    AcceptedFrom n s p × (lines_from n s p ≡ text_of (map (λ m. line_words (mark_of m) (outcome_of m)) ms))
-unfolding members lines_from AcceptedFrom text_of ended_by
+    lines_from n s p ≡ text_of (map (λ m. line_words (mark_of m) (outcome_of m)) ms)
+unfolding members lines_from text_of ended_by
 members_lines zero s p before i ms end e =
     let same : placed [] p ≡ placed ms end = cc in
-    (tt, rw (← ap (λ (x : Placed (List Member)). x.value) same))
+    rw (← ap (λ (x : Placed (List Member)). x.value) same)
 members_lines (suc n) s p before i ms end e =
     let f = first_read n s p before i ms end e in
-    let m = any_before s p before _ f.reads in
-    let r = members_lines n s f.next f.first.mark (i + 1) f.others end f.reads_others in (
-      rw m r.0,
-      rw (f.list, m) (ap (λ (l : List ℕ). member_text (member_of f.first) ++ l) r.1 ∙
-          sym (text_append (line_words (mark_of (member_of f.first)) (outcome_of (member_of f.first)) ∷ []) (map (λ m. line_words (mark_of m) (outcome_of m)) f.others))),
-    )
+    let r = members_lines n s f.next f.first.mark (i + 1) f.others end f.reads_others in
+    rw (f.list, any_before s p before _ f.reads) (ap (λ (l : List ℕ). member_text (member_of f.first) ++ l) r ∙
+    sym (text_append (line_words (mark_of (member_of f.first)) (outcome_of (member_of f.first)) ∷ []) (map (λ m. line_words (mark_of m) (outcome_of m)) f.others)))
 
 pub report_lines : (n : ℕ) (s : List ℕ) (p : ℕ) (ms : List Member) (end : ℕ) → members n s p 0 1 ≡ got (placed ms end) →
     line_text (head_words n) ++ lines_from n s p ≡ report_text ms
 report_lines n s p ms end e =
-    rw (← members_length n s p 0 1 ms end e) (ap (λ (l : List ℕ). line_text (head_words (length ms)) ++ l) (rw (members_length n s p 0 1 ms end e) (members_lines n s p 0 1 ms end e).1)
+    rw (← members_length n s p 0 1 ms end e) (ap (λ (l : List ℕ). line_text (head_words (length ms)) ++ l) (rw (members_length n s p 0 1 ms end e) (members_lines n s p 0 1 ms end e))
     ∙ sym (text_append (head_words (length ms) ∷ []) (map (λ m. line_words (mark_of m) (outcome_of m)) ms)))

@@ -7,7 +7,7 @@ use Rattle.member.specs.Member.{Member}
 use Rattle.verdict.specs.declared.Built.{Built}
 use Rattle.verdict.specs.Built.{member_of}
 use Rattle.question.specs.Reading.{Reading, got, no}
-use Rattle.field_validator.specs.Placed.{Placed}
+use Rattle.varint.specs.Placed.{Placed}
 use Rattle.members.specs.Members.{member}
 use Rattle.checks.specs.MemberOutcome.{mark_of, outcome_of}
 
@@ -19,16 +19,7 @@ report_text ms = text_of (report_words mark_of outcome_of ms)
 abbrev pub member_text : Member → List ℕ
 member_text m = line_text (line_words (mark_of m) (outcome_of m))
 
--- n accepted members stand from p on, whatever the order of their marks
-abbrev pub AcceptedThen : Reading Question (Placed Built) → (Placed Built → Type 0) → Type 0
-AcceptedThen (got b) rest = rest b
-AcceptedThen (no q) rest = ⊥
-
-unfoldable pub AcceptedFrom : ℕ → List ℕ → ℕ → Type 0
-AcceptedFrom zero src p = Unit {0}
-AcceptedFrom (suc n) src p = AcceptedThen (member src p 0) (λ b. AcceptedFrom n src b.next)
-
--- their lines
+-- the lines of n members from p on
 abbrev pub with_member : Reading Question (Placed Built) → (Placed Built → List ℕ) → List ℕ
 with_member (got b) line = line b
 with_member (no q) line = []

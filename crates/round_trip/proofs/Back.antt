@@ -10,11 +10,10 @@ use lib.Dec.{ltb}
 use lib.ListN.{length, get_or, set, length-set, length-append}
 use lib.Seq.{get_or-set_same, get_or-set_other}
 use borrow.Author.Tests.{ltb-true}
-use Rattle.std.specs.Prelude.{if◌then◌else◌}
+use Rattle.std.specs.Prelude.{if◌then◌else◌, Ok}
 use Rattle.quantity.proofs.Choice.{both_true}
 use Rattle.question.specs.declared.Question.TheVariants.{Field}
 use Rattle.question.specs.Reading.{got}
-use Rattle.varint.specs.declared.Number.TheVariants.{Value}
 use Rattle.varint.specs.Varint.{number_at}
 use Rattle.varint.specs.Encoding.{bytes_of}
 use Rattle.varint.proofs.Encoded.{bytes_read}
@@ -27,7 +26,7 @@ use Rattle.field_table.specs.declared.MemberKind.TheVariants as kinds
 use Rattle.field_table.specs.Fields.{fields_of}
 use Rattle.field_check.specs.FieldCheck.{fields_hold}
 use Rattle.field_layout.specs.Layout.{slot}
-use Rattle.field_validator.specs.Placed.{placed}
+use Rattle.varint.specs.Placed.{placed}
 use Rattle.field_validator.specs.FieldsAt.{field, fields}
 use Rattle.field_validator.proofs.Checked.{number_passes}
 use Rattle.encoding.specs.ScheduleBytes.{bytes_of_all}
@@ -89,7 +88,7 @@ module _ (isCount : ℕ → Bool) where
           agrees zero g m = absurd (true≢false (sym m ∙ n))
           agrees (suc k) g m = let z : i + suc k ≡ i + 1 + k = omega arith in rw z (r.agrees k (omega arith) m)
 
-      field_read : (s : List ℕ) (p x next : ℕ) → is_present d v ≡ true → number_at s p ≡ Value x next → holds d x ≡ true
+      field_read : (s : List ℕ) (p x next : ℕ) → is_present d v ≡ true → number_at s p ≡ Ok (x, next) → holds d x ≡ true
           → fields (d ∷ ds) s p i v ≡ fields ds s next (i + 1) (set v i x)
       unfolding fields field
       field_read s p x next m e q = rw (m, number_passes Field (holds d) s p x next e q)

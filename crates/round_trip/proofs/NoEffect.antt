@@ -1,5 +1,6 @@
 -- Slots past a count or past the last field, and words past the last whole record, have no effect: held schedules whose records agree where
 -- a field is there have the same members, or the same refusal.
+use Rattle.std.specs.Prelude.{Err, Ok}
 use Prim.Native.Nat.{ℕ, zero, suc, ◌+◌, ◌*◌, ◌/◌, ◌≤◌, ◌<◌}
 use mathlib.Core.Path.{◌≡◌, refl, sym, ap, ◌∙◌}
 use mathlib.Core.Bool.{Bool, true, false, ◌&&◌, true≢false}
@@ -11,8 +12,7 @@ use lib.ListN.{length, get_or}
 use Rattle.quantity.proofs.Choice.{both_true}
 use Rattle.question.specs.declared.Question.{Question}
 use Rattle.question.specs.declared.Question.TheVariants.{Count}
-use Rattle.question.specs.declared.Verdict.{Verdict}
-use Rattle.question.specs.declared.Verdict.TheVariants.{Accepted, Refused}
+use Rattle.question.specs.Reading.{Verdict}
 use Rattle.question.specs.Reading.{Reading, got, ask, passed, refusal}
 use Rattle.member.specs.Member.{Member}
 use Rattle.field_domain.specs.declared.Domain.{Domain}
@@ -78,9 +78,9 @@ record_same : (before : ℕ) (x y : Built) → SameRecord x y → record_reading
 unfolding record_verdict built_verdict fields_verdict member_verdict
 record_same before x y s = on_kind (known x.kind) refl
   where
-    refused : (t : Verdict) (m n : Member) → (t ≡ Accepted → ⊥) → passed t (got m) ≡ passed t (got n)
-    refused Accepted m n h = absurd (h refl)
-    refused (Refused q) m n h = refl
+    refused : (t : Verdict) (m n : Member) → (t ≡ (Ok tt) → ⊥) → passed t (got m) ≡ passed t (got n)
+    refused (Ok tt) m n h = absurd (h refl)
+    refused (Err q) m n h = refl
 
     on_kind : (k : Bool) → known x.kind ≡ k → record_reading before y ≡ record_reading before x
     on_kind true e =

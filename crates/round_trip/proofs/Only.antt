@@ -18,7 +18,7 @@ use Rattle.field_table.proofs.Tables.{fields_fit}
 use Rattle.verdict.specs.declared.Built.{Built}
 use Rattle.verdict.specs.Built.{member_of}
 use Rattle.question.specs.Reading.{got, and_then}
-use Rattle.field_validator.specs.Placed.{Placed, placed}
+use Rattle.varint.specs.Placed.{Placed, placed}
 use Rattle.field_validator.specs.FieldsAt.{empty}
 use Rattle.field_validator.specs.Taken.{taken}
 use Rattle.field_validator.proofs.Held.{ordered, in_order}

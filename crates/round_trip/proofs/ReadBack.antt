@@ -1,4 +1,5 @@
 -- The members of a held schedule are read back from their bytes, and these are at most 60,000.
+use Rattle.std.specs.Prelude.{Ok}
 use Prim.Native.Nat.{ℕ, suc, ◌+◌, ◌*◌, ◌^◌, ◌≤◌, ◌<◌}
 use mathlib.Core.Path.{◌≡◌, refl, sym, ap, ◌∙◌}
 use mathlib.Core.Bool.{true}
@@ -9,9 +10,7 @@ use lib.Dec.{ltb→lt}
 use lib.ListN.{length, length-append}
 use borrow.Author.Tests.{le-leb}
 use Rattle.question.specs.declared.Question.TheVariants.{Mark, Kind}
-use Rattle.question.specs.declared.Verdict.TheVariants.{Accepted}
 use Rattle.question.specs.Reading.{got}
-use Rattle.varint.specs.declared.Number.TheVariants.{Value}
 use Rattle.varint.specs.Varint.{number_at}
 use Rattle.varint.specs.Encoding.{septets_of, bytes_of}
 use Rattle.varint.proofs.Encoded.{bytes_read}
@@ -23,7 +22,7 @@ use Rattle.field_layout.specs.Layout.{member_at}
 use Rattle.verdict.specs.declared.Built.{Built}
 use Rattle.verdict.specs.Built.{member_of}
 use Rattle.verdict.specs.Verdict.{mark_in_range, verdict_of, member_verdict}
-use Rattle.field_validator.specs.Placed.{placed}
+use Rattle.varint.specs.Placed.{placed}
 use Rattle.field_validator.specs.FieldsAt.{empty, fields}
 use Rattle.field_validator.proofs.Checked.{number_passes}
 use Rattle.field_validator.proofs.Taken.{got_is}
@@ -53,8 +52,8 @@ record MemberBack (before : ℕ) (x : Built) (pre rest : List ℕ) : Type 0 wher
   mark_is : built.mark ≡ x.mark
   member_is : member_of built ≡ member_of x
 
-member_reads : (s : List ℕ) (before p a c r mark number : ℕ) (w : List ℕ) → number_at s p ≡ Value mark a → number_at s a ≡ Value number c
-    → fields (fields_of (kind_of number)) s c 0 empty ≡ got (placed w r) → mark_rises before mark ≡ true → known number ≡ true → member_verdict (kind_of number) w ≡ Accepted
+member_reads : (s : List ℕ) (before p a c r mark number : ℕ) (w : List ℕ) → number_at s p ≡ Ok (mark, a) → number_at s a ≡ Ok (number, c)
+    → fields (fields_of (kind_of number)) s c 0 empty ≡ got (placed w r) → mark_rises before mark ≡ true → known number ≡ true → member_verdict (kind_of number) w ≡ (Ok tt)
     → member s p before ≡ got (placed (made mark number w) r)
 unfolding member mark_at kind_at member_body
 member_reads s before p a c r mark number w m k f rises is_known verdict =
@@ -89,8 +88,8 @@ member_back before mark number v p pre rest =
     let m-small : mark < 2 ^ 32 = omega (arith, in_between {lo = 1} {hi = 999999} {x = mark} p.built.mark_in_range_lem) in
     let k-small : number < 2 ^ 32 = omega (arith, in_between {lo = 1} {hi = 4} {x = number} p.built.is_known) in
     let s = pre ++ ((a ++ (b ++ n)) ++ rest) in
-    let m : number_at s (length pre) ≡ Value mark (length (pre ++ a)) = rw (from_mark pre a b n rest, length-append) (bytes_read mark m-small pre (b ++ (n ++ rest))) in
-    let k : number_at s (length (pre ++ a)) ≡ Value number (length pre2) = rw (from_kind pre a b n rest, length-append (pre ++ a) b) (bytes_read number k-small (pre ++ a) (n ++ rest)) in
+    let m : number_at s (length pre) ≡ Ok (mark, length (pre ++ a)) = rw (from_mark pre a b n rest, length-append) (bytes_read mark m-small pre (b ++ (n ++ rest))) in
+    let k : number_at s (length (pre ++ a)) ≡ Ok (number, length pre2) = rw (from_kind pre a b n rest, length-append (pre ++ a) b) (bytes_read number k-small (pre ++ a) (n ++ rest)) in
     let f : fields fs s (length pre2) 0 empty ≡ got (placed r.slots (length pre + length (a ++ (b ++ n)))) = rw (from_fields pre a b n rest, ← to_end pre a b n rest) r.reads in
     record {
       built = made mark number r.slots;
@@ -173,7 +172,7 @@ module _ (xs : List Built) (ms : List Member) (few : length xs ≤ 500) (e : rec
       let a = bytes_of (length xs) in
       let b = members_bytes ms in
       let nil : a ++ (b ++ []) ≡ a ++ b = ap (λ (t : List ℕ). a ++ t) (append-nil b) in
-      let c : number_at (a ++ b) 0 ≡ Value (length xs) (length a) = bytes_read (length xs) (omega arith) [] b ∙ ap (Value (length xs)) (zero-add (length a)) in
+      let c : number_at (a ++ b) 0 ≡ Ok (length xs, length a) = bytes_read (length xs) (omega arith) [] b ∙ ap (λ (p : ℕ). Ok (length xs, p)) (zero-add (length a)) in
       let m : members (length xs) (a ++ b) (length a) 0 1 ≡ got (placed ms (length a + length b)) = rw (← nil) (members_back xs 0 1 ms e a []) in
       let l : length (a ++ b) ≡ length a + length b = length-append a b in
       rw (same_length, le-leb (length (a ++ b)) 60000 (rw same_length at file_short), c, le-leb (length xs) 500 few, m, le-leb (length (a ++ b)) (length a + length b) (omega arith))

@@ -1,4 +1,5 @@
 -- What an accepted schedule says: how it was read, and that each of its members is accepted.
+use Rattle.std.specs.Prelude.{Ok}
 use Prim.Native.Nat.{ℕ, ◌≤◌}
 use mathlib.Core.Path.{◌≡◌, refl, ap, ◌∙◌}
 use mathlib.Core.Bool.{Bool, true, false}
@@ -9,12 +10,11 @@ use lib.ListN.{length}
 use borrow.Author.Tests.{leb-true}
 use Rattle.question.specs.declared.Question.{Question}
 use Rattle.question.specs.declared.Question.TheVariants.{Size, Count, Trailing}
-use Rattle.varint.specs.declared.Number.TheVariants.{Value}
 use Rattle.varint.specs.Varint.{number_at}
 use Rattle.member.specs.Member.{Member}
 use Rattle.member.specs.Accepted.{AcceptedMembers}
 use Rattle.question.specs.Reading.{Reading, got, ask, refusal, named, no}
-use Rattle.field_validator.specs.Placed.{placed}
+use Rattle.varint.specs.Placed.{placed}
 use Rattle.field_validator.specs.FieldsAt.{checked}
 use Rattle.field_validator.proofs.Checked.{passes}
 use Rattle.members.specs.Members.{members}
@@ -28,7 +28,7 @@ pub record ScheduleRead (s : List ℕ) (ms : List Member) : Type 0 where
   pub start : ℕ
   pub end : ℕ
   pub short : length s ≤ 60000
-  pub counted : number_at s 0 ≡ Value count start
+  pub counted : number_at s 0 ≡ Ok (count, start)
   pub few : count ≤ 500
   pub reads : members count s start 0 1 ≡ got (placed ms end)
   pub whole : length s ≤ end

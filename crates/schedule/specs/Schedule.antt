@@ -1,14 +1,12 @@
 -- The schedule that bytes define, or the first question answered no, with its member; and the answer.
 -- (document 01, "Schedule bytes" and "Questions before any check")
-use Rattle.std.specs.Prelude.{ℕ, Bool, List, leb, length}
+use Rattle.std.specs.Prelude.{ℕ, Bool, List, leb, length, Err, Ok, Result}
 use Rattle.question.specs.declared.Question.TheVariants.{Size, Count, Trailing}
 use Rattle.question.specs.declared.Refusal.{Refusal}
 use Rattle.member.specs.Member.{Member}
 use Rattle.question.specs.Reading.{Reading, got, no, and_then, ask, refusal, named}
 use Rattle.field_validator.specs.FieldsAt.{checked}
 use Rattle.members.specs.Members.{members}
-use Rattle.schedule.specs.declared.ScheduleAnswer.{ScheduleAnswer}
-use Rattle.schedule.specs.declared.ScheduleAnswer.TheVariants.{Accepted, Refused}
 
 -- 4: at most 500 members
 abbrev pub count_fits : ℕ → Bool
@@ -24,6 +22,10 @@ schedule s =
     (got ms.value))))
 
 -- the number of members, or the refusal
+abbrev pub ScheduleAnswer : Type 0
+ScheduleAnswer = Result ℕ Refusal
+
+-- the number of members, or the refusal
 abbrev pub schedule_answer : Reading Refusal (List Member) → ScheduleAnswer
-schedule_answer (got ms) = Accepted (length ms)
-schedule_answer (no r) = Refused r
+schedule_answer (got ms) = Ok (length ms)
+schedule_answer (no r) = Err r

@@ -11,7 +11,7 @@ use Rattle.parameters.proofs.Usable.{usable_parameters}
 use Rattle.member.specs.Member.{Beam}
 use Rattle.bars.specs.Sums.{area}
 use Rattle.member.specs.Accepted.{AcceptedBeam}
-use Rattle.bars.proofs.Groups.{sums, some_bars, bars_least, area_least_by_bars}
+use Rattle.bars.proofs.Sums.{sums, some_bars, bars_least, area_least_by_bars}
 use Rattle.member.proofs.Accepted.{depth_least, load_within_more}
 use Rattle.section.specs.Section.{section_of}
 use Rattle.section.specs.Bounded.{Bounded}

@@ -1,2 +1,1 @@
 pub mod Bounded
-pub mod Made

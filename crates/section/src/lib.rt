@@ -6,12 +6,14 @@ ghost use Rattle.member.specs.Member.{beam_of};
 ghost use Rattle.member.specs.Accepted.{AcceptedBeam};
 ghost use Rattle.section.specs.Section.{section_of};
 
-use bars::{steel_area, totals_of};
 use code_tables::area_of;
 use material::{Concrete, Steel, concrete_of, fyv_of, steel_of};
 use member::{Beam, Load, effective_depth};
 use parameters::{Parameters, parameters_of};
-use quantity::{Force, Length, Stress, widen};
+use quantity::{Force, Length, Stress};
+pub use valid::{ReinforcedSection, ValidSection, valid_section};
+
+mod valid;
 
 // Document 01's symbols stand beside the fields.
 #[derive(Clone, Copy)]
@@ -52,6 +54,7 @@ pub struct Section {
 }
 
 // (bf-b)·hf.
+#[tactic(auto, unfolding(crate::specs::Section::section_of))]
 fn flange_area(x: Beam) -> u64
     requires { AcceptedBeam (beam_of x) }
     ensures { result ≡ (section_of (beam_of x)).flange }
@@ -60,52 +63,44 @@ fn flange_area(x: Beam) -> u64
 }
 
 // L, legs times area.
+#[tactic(auto, unfolding(crate::specs::Section::section_of))]
 fn link_area(x: Beam) -> u64
     ensures { result ≡ (section_of (beam_of x)).links }
 {
-    widen(x.legs) * widen(area_of(x.link))
+    x.legs as u64 * area_of(x.link) as u64
 }
 
 // The section of an accepted beam.
+#[tactic(auto, unfolding(crate::specs::Section::section_of))]
 pub fn section_of(x: Beam) -> Section
     requires { AcceptedBeam (beam_of x) }
     ensures { result ≡ section_of (beam_of x) }
 {
-    let b = x.b;
-    let h = x.h;
-    let ac = x.ac;
-    let s = x.s;
-    let c = x.c;
-    let l0 = x.l0;
-    let v = x.v;
-    let load = x.load;
-    let tension = x.tension;
-    let compression = x.compression;
-    let bars = totals_of(tension, x.tensions);
+    let bars = x.tension.totals();
     Section {
-        b: b,
-        h: h,
+        b: x.b,
+        h: x.h,
         h0: effective_depth(x),
-        ac: ac,
-        flanged: x.b.in_millimetres() < x.bf.in_millimetres(),
+        ac: x.ac,
+        flanged: x.b < x.bf,
         flange: flange_area(x),
         tension: bars.area,
-        compression: steel_area(compression, x.compressions),
+        compression: x.compression.steel_area(),
         links: link_area(x),
         squares: bars.squares,
         diameters: bars.diameters,
-        s: s,
-        c: c,
-        l0: l0,
+        s: x.s,
+        c: x.c,
+        l0: x.l0,
         M: x.M,
         Mq: x.Mq,
-        v: v,
+        v: x.v,
         environment: x.environment,
         strict: x.strict,
         concrete: concrete_of(x.concrete),
         steel: steel_of(x.steel),
         fyv: fyv_of(x.linkSteel),
-        load: load,
+        load: x.load,
         parameters: parameters_of(x.concrete, x.steel),
     }
 }

@@ -8,6 +8,7 @@ ghost use Rattle.service_moment.specs.ServiceMoment.{service_moment_fits};
 use member::Beam;
 
 // 14, of a beam: Mq ≤ M.
+#[tactic(auto, unfolding(crate::specs::ServiceMoment::service_moment_fits))]
 pub fn service_moment_fits(x: Beam) -> bool
     ensures { result ≡ service_moment_fits (beam_of x) }
 {

@@ -1,4 +1,4 @@
--- The width held against its limit: which way the chain goes.
+-- The width held against its limit: which way the chain goes. No proof cites these; the check finds both ways by itself.
 use Prim.Native.Nat.{ℕ, ◌≤◌, ◌<◌}
 use mathlib.Core.Path.{◌≡◌}
 use borrow.Author.Tests.{le-leb, lt-leb}

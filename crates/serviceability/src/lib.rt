@@ -1,17 +1,14 @@
 // The checks of a beam under service loads.
 #![tactic(auto)]
 
-ghost use Rattle.std.specs.Prelude.{◌≡◌, true, ◌*◌, ◌≤◌, if◌then◌else◌};
-ghost use Rattle.section.specs.Section.{G, S};
-ghost use Rattle.section.specs.Bounded.{Bounded};
-ghost use Rattle.cracking.specs.Bounds.{stress_most};
-ghost use Rattle.cracking.specs.Steps.{stress_holds, σ, q};
+ghost use Rattle.std.specs.Prelude.{◌≡◌, true, if◌then◌else◌};
+ghost use Rattle.cracking.specs.Steps.{stress_holds};
 ghost use Rattle.serviceability.specs.Checks.{from_deflection, from_width, from_stress};
 
-use cracking::{crack_width, mean_stress, steel_stress, stress_holds, width_limit};
+use cracking::{LoadedSection, crack_width, loaded_section, stress_holds, width_limit};
 use deflection::{deflection_figure, deflection_holds};
 use outcome::{Check, Outcome, four_figures, three_figures, two_figures};
-use section::Section;
+use section::ReinforcedSection;
 
 // OK, or the last check.
 fn last_check(holds: bool) -> Check
@@ -25,20 +22,13 @@ fn last_check(holds: bool) -> Check
 }
 
 // 4.5.1, and OK where it holds.
-fn from_deflection(
-    x: Section,
-    moment: u64,
-    shear: u64,
-    width: u64,
-    stress: u64,
-    mean: u64,
-) -> Outcome
-    requires { (Bounded x) × (stress ≡ σ x) × (stress ≤ stress_most) × (mean ≡ q x) × (mean ≤ stress_most) }
-    ensures { result ≡ from_deflection x moment shear width }
+#[tactic(auto, using(deflection::proofs::Bounds::deflection_most_lem), unfolding(crate::specs::Checks::from_deflection))]
+fn from_deflection(x: LoadedSection, moment: u64, shear: u64, width: u64) -> Outcome
+    ensures { result ≡ from_deflection x.valid.section moment shear width }
 {
-    let figure = deflection_figure(x, stress, mean);
+    let figure = deflection_figure(x);
     four_figures(
-        last_check(deflection_holds(x, figure)),
+        last_check(deflection_holds(x.valid, figure)),
         moment,
         shear,
         width,
@@ -47,26 +37,26 @@ fn from_deflection(
 }
 
 // 4.4.2.
-fn from_width(x: Section, moment: u64, shear: u64) -> Outcome
-    requires { (Bounded x) × (G x ≤ 50 * S x) × (stress_holds x ≡ true) }
-    ensures { result ≡ from_width x moment shear }
+#[tactic(auto, unfolding(crate::specs::Checks::from_width))]
+fn from_width(x: ReinforcedSection, moment: u64, shear: u64) -> Outcome
+    requires { stress_holds x.valid.section ≡ true }
+    ensures { result ≡ from_width x.valid.section moment shear }
 {
-    let stress = steel_stress(x);
-    let mean = mean_stress(x, stress);
-    let width = crack_width(x, mean);
-    if width <= width_limit(x.environment) {
-        from_deflection(x, moment, shear, width, stress, mean)
+    let loaded = loaded_section(x.valid);
+    let width = crack_width(x.valid, loaded.mean);
+    if width <= width_limit(x.valid.section.environment) {
+        from_deflection(loaded, moment, shear, width)
     } else {
         three_figures(Check::CrackWidth, moment, shear, width)
     }
 }
 
 // 4.4.1.
-pub fn from_stress(x: Section, moment: u64, shear: u64) -> Outcome
-    requires { (Bounded x) × (G x ≤ 50 * S x) }
-    ensures { result ≡ from_stress x moment shear }
+#[tactic(auto, unfolding(crate::specs::Checks::from_stress))]
+pub fn from_stress(x: ReinforcedSection, moment: u64, shear: u64) -> Outcome
+    ensures { result ≡ from_stress x.valid.section moment shear }
 {
-    if stress_holds(x) {
+    if stress_holds(x.valid) {
         from_width(x, moment, shear)
     } else {
         two_figures(Check::ServiceStress, moment, shear)

@@ -38,18 +38,15 @@ inside l b i e p u v =
     let f = inside_core l b (down (l - 8 * b) (2 * b)) i e (down_below (l - 8 * b) (2 * b)) (down_above (l - 8 * b) (omega arith)) u v in
     record { last = omega arith; low = f.0; high = omega arith }
 
--- the table there: at most 100, falling; what is taken off is no more than what there is
+-- the table falls there; what is taken off is no more than what there is
 pub record Falling (p q l b i : ℕ) : Type 0 where
-  pub most : p ≤ 100
   pub falls : q ≤ p
   pub off : (p - q) * (l - (8 + 2 * i) * b) ≤ p * (2 * b)
-  pub whole : p * (2 * b) ≤ 200 * b
 
 pub falling : (p q l b i : ℕ) → p ≡ point i → q ≡ point (i + 1) → Inside l b i → Falling p q l b i
 falling p q l b i e f n =
     let t = point_falls i (omega arith) in
-    let m : p ≤ 100 = omega arith in
-    record { most = m; falls = omega arith; off = mul-le-mul (omega arith) n.high; whole = omega (arith, mul-le-mul_right (2 * b) m) }
+    record { falls = omega arith; off = mul-le-mul (omega arith) n.high }
 
 -- The interval found by going through the table is the one found by dividing.
 

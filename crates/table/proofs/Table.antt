@@ -106,14 +106,7 @@ row_at_place k (r ∷ rs) = go (row_at_place k rs) (eqb k (get_or r 0 0))
     go h true = refl
     go h false = h
 
--- a formula that gives the place of each row's key gives that of any listed key
-pub listed_place : (f : ℕ → ℕ) (k : ℕ) (rows : List (List ℕ)) →
-    T (every (λ (i : ℕ) (r : List ℕ). eqb (f (get_or r 0 0)) (place (get_or r 0 0) rows)) 0 rows) → listed k rows ≡ true →
-    f k ≡ place k rows
-listed_place f k rows t e =
-    subst (λ (n : ℕ). f n ≡ place n rows) (listed_key k rows e)
-    (eqb→eq _ _ (listed_rule (λ (r : List ℕ). eqb (f (get_or r 0 0)) (place (get_or r 0 0) rows)) k rows 0 t e))
-
+-- a key that is not listed has the place past the last row
 pub unlisted_place : (k : ℕ) (rows : List (List ℕ)) → listed k rows ≡ false → place k rows ≡ length rows
 unlisted_place k [] e = refl
 unlisted_place k (r ∷ rs) e = go (unlisted_place k rs) (eqb k (get_or r 0 0)) e
@@ -136,31 +129,3 @@ cell_case P k j rows f z = go (listed k rows) refl
     go : (t : Bool) → listed k rows ≡ t → P (cell k j rows)
     go true e = f e
     go false e = rw (unlisted_cell k j rows e) z
-
--- ---- A list whose places have an arm each.
-
--- i is none of the first n places
-abbrev pub NoneOf : ℕ → ℕ → Type 0
-NoneOf zero i = Unit {0}
-NoneOf (suc n) i = NoneOf n i × (i ≡ n → ⊥)
-
-pub none_of : (n i : ℕ) → NoneOf n i → n ≤ i
-none_of zero i h = omega arith
-none_of (suc n) i h = omega (arith, none_of n i h.0, h.1)
-
--- ---- A table whose keys have an arm each.
-
--- besides A, the key k is none of the rows'
-abbrev pub NoKey : Type 0 → ℕ → List (List ℕ) → Type 0
-NoKey A k [] = A
-NoKey A k (r ∷ rs) = NoKey (A × (k ≡ get_or r 0 0 → ⊥)) k rs
-
-no_key : {A : Type 0} (k : ℕ) (rows : List (List ℕ)) → NoKey A k rows → A × (listed k rows ≡ false)
-no_key k [] a = (a, refl)
-no_key k (r ∷ rs) a = let h = no_key k rs a in (h.0.0, simp (ne_eqb k (get_or r 0 0) h.0.1) h.1)
-
-pub none_listed : (k : ℕ) (rows : List (List ℕ)) → NoKey (Unit {0}) k rows → listed k rows ≡ false
-none_listed k rows h = (no_key k rows h).1
-
-pub none_cell : (k j : ℕ) (rows : List (List ℕ)) → NoKey (Unit {0}) k rows → cell k j rows ≡ 0
-none_cell k j rows h = unlisted_cell k j rows (none_listed k rows h)

@@ -7,6 +7,8 @@ use native.Mathlib.Omega.{arith, min_cases}
 use lib.ListN.{length, take, drop, length-append}
 use lib.Seq.{sets, sets-eq, length-sets, set_out, take-append_seam}
 use Rattle.text.specs.Put.{Put, advance, last_position}
+use Rattle.text.specs.Wrote.{Wrote}
+use Rattle.text.specs.declared.Writer.{Writer}
 
 -- ---- Runs of stores
 
@@ -39,6 +41,9 @@ put_then {d} {at} {s} {d₁} {p} {t} {d₂} {q} a b = record {
   short = a.short;
 }
 
+pub wrote_then : {w w₁ w₂ : Writer} {s t : List ℕ} → Wrote w s w₁ → Wrote w₁ t w₂ → Wrote w (s ++ t) w₂
+wrote_then a b = record { same = b.same ∙ a.same; put = put_then a.put b.put }
+
 -- the buffer keeps its length
 pub put_length : {d : List ℕ} {at : ℕ} {s d' : List ℕ} {r : ℕ} → Put d at s d' r → length d' ≡ length d
 put_length {d} {at} {s} a = rw a.bytes (length-sets d at s)
@@ -50,6 +55,21 @@ put_bounds a = omega (arith, put_length a, a.short, a.next)
 -- a byte past the end
 pub put_past : (d : List ℕ) {at b r : ℕ} → length d ≤ at → length d < last_position → r ≡ advance at 1 → Put d at (b ∷ []) d r
 put_past d {at} {b} h k e = record { bytes = sym (set_out d at b h); next = e; short = k }
+
+-- ---- In a loop: w has put a part of the text s since it was w₀, and t is what is left
+
+pub record Leaves (w₀ : Writer) (s : List ℕ) (w : Writer) (t : List ℕ) : Type 0 where
+  pub bounds : (length w.out.now < last_position) × (w.at ≤ last_position)
+  pub whole : (w' : Writer) → Wrote w t w' → Wrote w₀ s w'
+
+pub leaves_all : (w : Writer) (s : List ℕ) → (length w.out.now < last_position) × (w.at ≤ last_position) → Leaves w s w s
+leaves_all w s b = record { bounds = b; whole = λ w' h. h }
+
+pub leaves_more : {w₀ w w₁ : Writer} {s : List ℕ} (t u : List ℕ) → Leaves w₀ s w (t ++ u) → Wrote w t w₁ → Leaves w₀ s w₁ u
+leaves_more t u l a = record { bounds = put_bounds a.put; whole = λ w' h. l.whole w' (wrote_then a h) }
+
+pub leaves_none : {w₀ w : Writer} {s : List ℕ} → Leaves w₀ s w [] → Wrote w₀ s w
+leaves_none {w = w} l = l.whole w (record { same = refl; put = put_none w.out.now w.at l.bounds.0 l.bounds.1 })
 
 -- ---- A text put at the start: how long it is, and what the buffer then holds
 

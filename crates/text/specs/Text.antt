@@ -1,7 +1,6 @@
 -- Text as a list of bytes: decimal numbers, words and lines, and how they are read back.
 -- (document 01, "One schedule, printed")
-use Rattle.std.specs.Prelude.{ℕ, zero, suc, ◌+◌, ◌-◌, ◌*◌, ◌/◌, ◌%◌, Bool, true, false, ◌&&◌, List, [], ◌∷◌, ◌++◌, map, eqb, leb, get_or, take}
-use Rattle.text.specs.declared.Word.{Word}
+use Rattle.std.specs.Prelude.{ℕ, zero, suc, ◌+◌, ◌-◌, ◌*◌, ◌/◌, ◌%◌, Bool, true, false, ◌&&◌, List, [], ◌∷◌, ◌++◌, map, eqb, leb, get_or}
 
 -- ---- Decimal numbers
 
@@ -37,12 +36,6 @@ is_digit b = leb 48 b && leb b 57
 unfoldable pub is_decimal : List ℕ → Bool
 is_decimal [] = false
 is_decimal (b ∷ s) = every is_digit (b ∷ s)
-
--- ---- A fixed word
-
--- the first n of eight bytes, all of them where n is above 8
-abbrev pub word_text : Word → List ℕ
-word_text w = take w.n w.b
 
 -- ---- Lines and words
 

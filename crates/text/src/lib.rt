@@ -1,71 +1,46 @@
-// Text put into a lent buffer: bytes and fixed words. A byte past the buffer's end is counted and not stored, so a first pass over
-// a buffer of one byte learns a text's length.
+// Text put into a lent buffer. A byte past the buffer's end is counted and not stored, so a first pass over an empty buffer
+// learns a text's length.
 #![tactic(auto)]
 
-ghost use Rattle.std.specs.Prelude.{◌≡◌, ◌∷◌, [], min, take};
-ghost use Rattle.text.specs.Text.{word_text};
-ghost use Rattle.text.specs.Put.{Put, advance};
+ghost use Rattle.std.specs.Prelude.{◌≡◌, ◌≤◌, ◌∷◌, []};
+ghost use Rattle.text.specs.Put.{last_position};
 
-// The largest position.
-const LAST: usize = 18446744073709551615;
-
-// A word of at most eight bytes: the first n of b, all of them where n is above 8.
-#[derive(Clone, Copy)]
-pub struct Word {
-    pub n: usize,
-    pub b: [u8; 8],
+// A lent buffer and the place of its next byte.
+#[derive(Drop)]
+pub struct Writer<'a> {
+    pub out: &'a mut [u8],
+    pub at: usize,
+    ghost placed: { at ≤ last_position },
 }
 
-// The word of the first n bytes of b.
-pub fn word_of(n: usize, b: [u8; 8]) -> Word
-    ensures { word_text result ≡ take n b }
-{
-    Word { n, b }
-}
+impl<'a> Writer<'a> {
+    ghost use Rattle.text.specs.Wrote.{Wrote};
 
-// The position after `at`; it stays at the largest one.
-fn after(at: usize) -> usize
-    ensures { result ≡ advance at 1 }
-{
-    if at < LAST { at + 1 } else { at }
-}
-
-// One byte at `at`.
-pub fn put_byte(out: &mut [u8], at: usize, b: u8) -> usize
-    ensures { Put out.old at (b ∷ []) out.new result }
-{
-    if at < out.len() {
-        out[at] = b;
-        return after(at);
+    // From the buffer's start on.
+    pub fn new(out: &'a mut [u8]) -> Writer<'a>
+        ensures same { result.out.ghost_name ≡ out.entry.ghost_name }
+        ensures held { result.out.now ≡ out.old }
+        ensures start { result.at ≡ 0 }
+    {
+        Writer { out, at: 0 }
     }
-    after(at)
-}
 
-fn smaller(a: usize, b: usize) -> usize
-    ensures { result ≡ min a b }
-{
-    if a < b { a } else { b }
-}
-
-// The first `n` bytes of `s` from `at` on, all of them where there are fewer.
-pub fn put_first(out: &mut [u8], at: usize, s: &[u8], n: usize) -> usize
-    ensures { Put out.old at (take n s.now) out.new result }
-{
-    let end = smaller(n, s.len());
-    let mut p = at;
-    let mut i = 0;
-    while i < end {
-        p = put_byte(out, p, s[i]);
-        i += 1;
+    // One byte. The place stays at the largest one.
+    pub fn put_byte(&mut self, b: u8)
+        ensures { Wrote self.old (b ∷ []) self.new }
+    {
+        if self.at < self.out.len() {
+            self.out[self.at] = b;
+        }
+        self.at = self.at.saturating_add(1);
     }
-    p
-}
 
-// The word `w` from `at` on.
-pub fn put_word(out: &mut [u8], at: usize, w: Word) -> usize
-    ensures { Put out.old at (word_text w) out.new result }
-{
-    let n = w.n;
-    let b = w.b;
-    put_first(out, at, &b, n)
+    // The bytes of `s`.
+    pub fn put(&mut self, s: &[u8])
+        ensures { Wrote self.old s.now self.new }
+    {
+        for b in s {
+            self.put_byte(*b);
+        }
+    }
 }

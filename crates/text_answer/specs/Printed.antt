@@ -1,11 +1,9 @@
 -- A text, or a file, put into a buffer or refused: the answer in the papers' numbers, and the buffer afterwards (document 01, "One schedule, printed").
-use Rattle.std.specs.Prelude.{ℕ, ◌≡◌, List, ◌++◌, leb, length, drop}
+use Rattle.std.specs.Prelude.{ℕ, ◌≡◌, List, ◌++◌, leb, length, drop, Err, Ok, Result}
 use Rattle.question.specs.declared.Question.TheVariants.{Buffer}
 use Rattle.question.specs.declared.Refusal.{Refusal}
 use Rattle.question.specs.Question.{number_of}
 use Rattle.question.specs.Reading.{Reading, got, no, and_then, ask, refusal}
-use Rattle.text_answer.specs.declared.TextAnswer.{TextAnswer}
-use Rattle.text_answer.specs.declared.TextAnswer.TheVariants.{Written, Refused}
 
 -- What an answer says, in numbers: the question answered no and its member, 0 and 0 where none was; and the text's length.
 pub record Numbers : Type 0 where
@@ -19,9 +17,13 @@ written n = record { question = 0; member = 0; length = n }
 abbrev pub refused : Refusal → Numbers
 refused r = record { question = number_of r.question; member = r.member; length = 0 }
 
+-- How many of the buffer's first bytes the text, or the file, has; or the first question answered no, and the buffer is as it was.
+abbrev pub TextAnswer : Type 0
+TextAnswer = Result ℕ Refusal
+
 abbrev pub numbers_of : TextAnswer → Numbers
-numbers_of (Written n) = written n
-numbers_of (Refused r) = refused r
+numbers_of (Ok n) = written n
+numbers_of (Err r) = refused r
 
 -- question 12 where there is no room for the text; it names member `whose`
 abbrev pub text_too_long : ℕ → Refusal

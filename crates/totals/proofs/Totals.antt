@@ -1,29 +1,40 @@
 -- The totals of groups copied out of a list are the list's.
-use Prim.Native.Nat.{ℕ, zero, suc, ◌+◌, ◌≤◌, ◌<◌}
-use mathlib.Core.Path.{◌≡◌, refl, sym, ap, ◌∙◌}
+use Prim.Native.Nat.{ℕ, zero, suc, ◌≤◌, ◌<◌}
+use mathlib.Core.Path.{◌≡◌, refl, sym}
 use mathlib.Core.Bool.{Bool, true, false, ◌&&◌}
 use mathlib.Core.List.{List, [], ◌∷◌}
-use native.Mathlib.Nat.{not-suc-le-zero, le_of_suc-le-suc}
-use native.Mathlib.Numerals.{add-one}
+use native.Mathlib.Nat.{not-suc-le-zero}
+use native.Mathlib.Omega.{arith}
+use Rattle.std.specs.Bool.{MatchBool}
+use Rattle.std.specs.List.{AllWithin, HoldsAt}
 use lib.Dec.{leb}
 use lib.ListN.{length, get_or, take}
 use borrow.Author.Tests.{leb-true, le-leb}
 use Rattle.std.specs.Prelude.{if◌then◌else◌}
-use Rattle.quantity.proofs.Choice.{and_true, and_assoc}
+use Rattle.quantity.proofs.Choice.{and_false}
 use Rattle.bars.specs.declared.Group.{Group}
 use Rattle.lent_groups.specs.LentGroups.{group_holds, groups_hold, named_hold}
 use Rattle.lent_groups.specs.CopiedGroups.{no_group, first_four}
 use Rattle.lent_groups.proofs.Named.{named_groups, named_hold_lem}
 use Rattle.totals.specs.Totals.{totals_given, totals_refused, bar_totals}
 
--- one group more
-pub hold_more : (gs : List Group) (i : ℕ) → i < length gs → (groups_hold (take i gs) && group_holds (get_or gs i no_group)) ≡ groups_hold (take (i + 1) gs)
-hold_more gs i l = rw add-one (go gs i l)
-  where
-    go : (gs : List Group) (i : ℕ) → i < length gs → (groups_hold (take i gs) && group_holds (get_or gs i no_group)) ≡ groups_hold (take (suc i) gs)
-    go [] i l = absurd (not-suc-le-zero l)
-    go (g ∷ gs) zero l = sym (and_true (group_holds g))
-    go (g ∷ gs) (suc i) l = and_assoc (group_holds g) _ _ ∙ ap (λ (b : Bool). group_holds g && b) (go gs i (le_of_suc-le-suc l))
+-- what a walk over groups came to
+all_hold : (gs : List Group) → ((k : ℕ) → k < length gs → group_holds (get_or gs k no_group) ≡ true) → groups_hold gs ≡ true
+all_hold [] h = refl
+all_hold (g ∷ gs) h =
+    let first : group_holds g ≡ true = h 0 (omega arith) in
+    rw (first, all_hold gs (λ k l. h (suc k) (omega arith)))
+
+one_fails : (gs : List Group) (k : ℕ) → k < length gs → group_holds (get_or gs k no_group) ≡ false → groups_hold gs ≡ false
+one_fails [] k l e = absurd (not-suc-le-zero l)
+one_fails (g ∷ gs) zero l e = rw e
+one_fails (g ∷ gs) (suc k) l e = rw (one_fails gs k (omega arith) e) (and_false (group_holds g))
+
+pub walked : (gs : List Group) (r : Bool)
+    → MatchBool r (AllWithin (λ g. group_holds g ≡ true) gs 0 (length gs)) ((k : ℕ) × (k < length gs) × HoldsAt (λ g. group_holds g ≡ false) gs k)
+    → r ≡ groups_hold gs
+walked gs true h = sym (all_hold gs (λ k l. h k no_group (omega arith) l))
+walked gs false h = sym (one_fails gs h.0 h.1 (h.2 no_group))
 
 -- of four groups, no count up to 4 is above their number
 pub four_hold : (n : ℕ) (gs : List Group) → length gs ≡ 4 → n ≤ 4 → named_hold n gs ≡ groups_hold (take n gs)

@@ -1,14 +1,14 @@
 // The totals of groups of bars that a caller lends, or question 7.
 #![tactic(auto)]
 
-ghost use Rattle.std.specs.Prelude.{◌≡◌, true, ◌≤◌, take};
+ghost use Rattle.std.specs.Prelude.{◌≡◌, true};
+ghost use Rattle.bars.specs.Listed.{groups_in};
 ghost use Rattle.lent_groups.specs.LentGroups.{group_holds, groups_hold};
 ghost use Rattle.totals.specs.Totals.{totals_given, totals_refused, bar_totals};
 
-use bars::{Group, totals_of};
+use bars::{Group, Groups};
 use field_domain::{is_group_bars, is_group_diameter};
-use quantity::and;
-use question::{Question, number_of};
+use question::Question;
 
 // Question 0 says that the totals were given: number of bars, their area (tenths of mm²), n·d (mm) and n·d² (mm²) summed.
 // 7 says that the count is above 4 or above the list's length, or that a group is out of range.
@@ -26,28 +26,22 @@ pub struct BarTotals {
 fn group_holds(g: Group) -> bool
     ensures { result ≡ group_holds g }
 {
-    and(is_group_diameter(g.diameter), is_group_bars(g.bars))
+    is_group_diameter(g.diameter) && is_group_bars(g.bars)
 }
 
-// Question 7 of the first `count` of four groups.
-fn groups_hold(groups: [Group; 4], count: usize) -> bool
-    requires { count ≤ 4 }
-    ensures { result ≡ groups_hold (take count groups) }
+// Question 7 of groups.
+fn groups_hold(groups: &[Group]) -> bool
+    ensures { result ≡ groups_hold groups.now }
 {
-    let mut all = true;
-    let mut i: usize = 0;
-    while i < count {
-        all = and(all, group_holds(groups[i]));
-        i += 1;
-    }
-    all
+    groups.iter().all(|g| group_holds(*g))
 }
 
-fn totals_given(groups: [Group; 4], count: usize) -> BarTotals
-    requires { groups_hold (take count groups) ≡ true }
-    ensures { result ≡ totals_given (take count groups) }
+#[tactic(auto, using(lent_groups::proofs::Named::held_accepted))]
+fn totals_given(groups: Groups) -> BarTotals
+    requires { groups_hold (groups_in groups) ≡ true }
+    ensures { result ≡ totals_given (groups_in groups) }
 {
-    let t = totals_of(groups, count);
+    let t = groups.totals();
     BarTotals {
         question: 0,
         member: 0,
@@ -62,7 +56,7 @@ fn totals_refused() -> BarTotals
     ensures { result ≡ totals_refused }
 {
     BarTotals {
-        question: number_of(Question::Field),
+        question: Question::Field.into(),
         member: 1,
         bars: 0,
         area: 0,
@@ -71,16 +65,13 @@ fn totals_refused() -> BarTotals
     }
 }
 
-// The totals of the first `count` groups, copied out of a list.
-pub fn copied_totals(groups: [Group; 4], count: usize) -> BarTotals
-    ensures { result ≡ bar_totals count groups }
+// The totals of groups copied out of a list.
+#[tactic(auto, using(crate::proofs::Totals::four_hold), unfolding(crate::specs::Totals::bar_totals))]
+pub fn copied_totals(groups: Groups) -> BarTotals
+    ensures { result ≡ bar_totals groups.count groups.list }
 {
-    if count <= 4 {
-        if groups_hold(groups, count) {
-            totals_given(groups, count)
-        } else {
-            totals_refused()
-        }
+    if groups.count <= 4 && groups_hold(groups.items()) {
+        totals_given(groups)
     } else {
         totals_refused()
     }

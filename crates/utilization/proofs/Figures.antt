@@ -1,11 +1,11 @@
 -- Which figure of an outcome stands at each place, and that a cast of it loses nothing.
+use Rattle.std.specs.Prelude.{None, Some}
 use Prim.Native.Nat.{◌^◌}
 use mathlib.Core.Path.{refl}
 use native.Mathlib.Omega.{arith}
 use Rattle.material.specs.declared.Concrete.{Concrete}
 use Rattle.material.specs.declared.Steel.{Steel}
-use Rattle.outcome.specs.declared.Figure.{Figure}
-use Rattle.outcome.specs.declared.Figure.TheVariants.{Reached, Unreached}
+use Rattle.outcome.specs.Outcome.{Figure}
 use Rattle.outcome.specs.declared.Outcome.{Outcome}
 use Rattle.line.proofs.Length.{Below}
 use Rattle.member.specs.Member.{Beam, Column, Mesh}
@@ -31,8 +31,8 @@ use Rattle.ratio.specs.Ratio.{ExactFigure, ExactFigures}
 use Rattle.ratio.proofs.Nearest.{Is}
 
 exact_figure : (f : Figure) → Below (10 ^ 9) f → ExactFigure f
-exact_figure (Reached v) h = omega arith
-exact_figure Unreached h = tt
+exact_figure (Some v) h = omega arith
+exact_figure None h = tt
 
 pub exact_figures : (o : Outcome) → Short o → ExactFigures o
 exact_figures o s =

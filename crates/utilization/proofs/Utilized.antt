@@ -1,8 +1,7 @@
 -- The utilizations of an accepted member are the nearest doubles, and each decides its check.
+use Rattle.std.specs.Prelude.{Err, Ok}
 use Prim.Native.Nat.{ℕ, ◌*◌, ◌^◌, ◌≤◌, ◌<◌}
-use mathlib.Core.Bool.{Bool}
-use mathlib.Core.Path.{◌≡◌, ◌∙◌}
-use mathlib.Core.List.{List}
+use mathlib.Core.Path.{◌≡◌}
 use native.Mathlib.Nat.{mul-le-mul_left, mul-le-mul_right}
 use native.Mathlib.Omega.{arith}
 use lib.Dec.{leb, eqb}
@@ -21,20 +20,15 @@ use Rattle.cracking.specs.Steps.{width_limit}
 use Rattle.deflection.specs.Steps.{deflection, deflection_holds}
 use Rattle.deflection.proofs.Bounds.{divisor_between}
 use Rattle.verdict.specs.declared.Built.{Built}
-use Rattle.question.specs.declared.Verdict.TheVariants.{Accepted, Refused}
-use Rattle.field_table.specs.declared.MemberKind.{MemberKind}
-use Rattle.field_table.specs.declared.MemberKind.TheVariants as kinds
-use Rattle.field_layout.specs.Layout.{beam_at, column_at, mesh_at, member_at}
+use Rattle.field_layout.specs.declared.valid.ValidMember.{ValidMember}
+use Rattle.field_layout.specs.Valid.{valid_member}
 use Rattle.verdict.specs.Built.{member_of}
 use Rattle.verdict.specs.Verdict.{built_verdict}
-use Rattle.verdict.proofs.Accepted.{accepted_built}
 use Rattle.checks.specs.MemberOutcome.{outcome_of}
 use Rattle.beam.proofs.Safe.{beam_safe}
 use Rattle.column.proofs.Safe.{column_given}
 use Rattle.checks.proofs.Figures.{member_short}
 use Rattle.ratio.specs.declared.Utilization.{Utilization}
-use Rattle.utilization.specs.declared.UtilizationAnswer.{UtilizationAnswer}
-use Rattle.utilization.specs.declared.UtilizationAnswer.TheVariants as answers
 use Rattle.ratio.specs.Ratio.{quotient, nearest, ExactFigures}
 use Rattle.utilization.specs.Utilization.{deflection_limit, beam_utilization, column_utilization, mesh_utilization, utilization_of}
 use Rattle.governing.specs.Governing.{ratios_of, FiniteNonneg}
@@ -131,49 +125,31 @@ nearest_member_nonneg (mesh mark x) a =
 member_nonneg : (m : Member) → AcceptedMember m → FiniteNonneg (ratios_of (utilization_of quotient m (outcome_of m)))
 member_nonneg m a = rw (member_nearest m a) (nearest_member_nonneg m a)
 
--- ---- By kind.
-
-module _ (mark : ℕ) (v : List ℕ) (o : Outcome) {kind : MemberKind} {u : Utilization} where
-  pub of_beam : {x : Beam} (pointLoad : Bool) → kind ≡ kinds.Beam pointLoad → x ≡ beam_at pointLoad v → u ≡ beam_utilization quotient x o → u ≡ utilization_of quotient (member_at mark kind v) o
-  unfolding member_at
-  of_beam pointLoad p q e = rw p (e ∙ rw q)
-
-  pub of_column : {x : Column} → kind ≡ kinds.Column → x ≡ column_at v → u ≡ column_utilization quotient x o → u ≡ utilization_of quotient (member_at mark kind v) o
-  unfolding member_at
-  of_column p q e = rw p (e ∙ rw q)
-
-  pub of_mesh : {x : Mesh} → kind ≡ kinds.Mesh → x ≡ mesh_at v → u ≡ mesh_utilization quotient x o → u ≡ utilization_of quotient (member_at mark kind v) o
-  unfolding member_at
-  of_mesh p q e = rw p (e ∙ rw q)
-
 -- ---- The answer.
 
-pub accepted_exact : (x : Built) {o : Outcome} → built_verdict x.mark x.kind x.fields.v ≡ Accepted → o ≡ outcome_of (member_of x) →
-    AcceptedMember (member_of x) × ExactFigures o
-accepted_exact x p e =
-    let a = accepted_built x.mark x.kind x.fields.v p in
-    (a, rw e (member_exact (member_of x) a))
+pub valid_exact : (m : ValidMember) {o : Outcome} → o ≡ outcome_of (valid_member m) → ExactFigures o
+valid_exact m e = rw e (member_exact (valid_member m) m.accepted)
 
-module _ (x : Built) {answer : UtilizationAnswer} where
-  pub given : built_verdict x.mark x.kind x.fields.v ≡ Accepted →
-      answer ≡ answers.Given (utilization_of quotient (member_of x) (outcome_of (member_of x))) → Utilized x answer
+module _ (x : Built) where
+  pub given : (m : ValidMember) {o : Outcome} {u : Utilization} → built_verdict x.mark x.kind x.fields.v ≡ (Ok tt) → valid_member m ≡ member_of x
+      → o ≡ outcome_of (valid_member m) → u ≡ utilization_of quotient (valid_member m) o → Utilized x (Ok u)
   unfolding utilization_answer
-  given p e =
-      let a = accepted_built _ _ _ p in
+  given m {o} {u} p same e f =
+      let a = rw same at m.accepted in
+      let g : u ≡ utilization_of quotient (member_of x) (outcome_of (member_of x)) = rw (f, e, same) in
       record {
-        answer_is = rw (p, e);
-        nearest_is = λ z. rw e (member_nearest (member_of x) a);
-        finite = λ z. rw e (member_nonneg (member_of x) a);
-        decides = λ z. rw (e, member_nearest (member_of x) a) (member_decides (member_of x) a);
+        answer_is = rw (p, g);
+        nearest_is = λ z. rw g (member_nearest (member_of x) a);
+        finite = λ z. rw g (member_nonneg (member_of x) a);
+        decides = λ z. rw (g, member_nearest (member_of x) a) (member_decides (member_of x) a);
       }
 
-  pub refused : (q : Question) → built_verdict x.mark x.kind x.fields.v ≡ Refused q →
-      answer ≡ answers.Refused (record { question = q; member = 1 }) → Utilized x answer
+  pub refused : (q : Question) → built_verdict x.mark x.kind x.fields.v ≡ Err q → Utilized x (Err (record { question = q; member = 1 }))
   unfolding utilization_answer
-  refused q p e =
+  refused q p =
       record {
-        answer_is = rw (p, e);
-        nearest_is = λ z. absurd (numbered q (rw e at z));
-        finite = λ z. absurd (numbered q (rw e at z));
-        decides = λ z. absurd (numbered q (rw e at z));
+        answer_is = rw p;
+        nearest_is = λ z. absurd (numbered q z);
+        finite = λ z. absurd (numbered q z);
+        decides = λ z. absurd (numbered q z);
       }

@@ -1,5 +1,5 @@
 -- The utilization of a built member, and the whole promise of `utilization_of`.
-use Rattle.std.specs.Prelude.{ℕ, ◌≡◌, true, leb}
+use Rattle.std.specs.Prelude.{ℕ, ◌≡◌, true, leb, Err, Ok, Result}
 use Rattle.question.specs.declared.Refusal.{Refusal}
 use Rattle.question.specs.Question.{number_of}
 use Rattle.material.specs.Concrete.{concrete_of}
@@ -16,15 +16,12 @@ use Rattle.axial.specs.Steps.{axial_capacity}
 use Rattle.anchorage.specs.Steps.{anchorage_length}
 use Rattle.lap.specs.Steps.{lap_length}
 use Rattle.verdict.specs.declared.Built.{Built}
-use Rattle.question.specs.declared.Verdict.{Verdict}
-use Rattle.question.specs.declared.Verdict.TheVariants as verdicts
+use Rattle.question.specs.Reading.{Verdict}
 use Rattle.verdict.specs.Built.{member_of}
 use Rattle.verdict.specs.Verdict.{built_verdict}
 use Rattle.checks.specs.MemberOutcome.{outcome_of}
 use Rattle.ratio.specs.declared.Utilization.{Utilization}
 use Rattle.governing.specs.Governing.{ratios_of, FiniteNonneg}
-use Rattle.utilization.specs.declared.UtilizationAnswer.{UtilizationAnswer}
-use Rattle.utilization.specs.declared.UtilizationAnswer.TheVariants.{Given, Refused}
 use Rattle.ratio.specs.Ratio.{quotient, nearest, no_ratio, four_ratios, Decides}
 use Rattle.utilization.specs.Utilization.{utilization_of}
 
@@ -40,14 +37,18 @@ values_given u = record { question = 0; member = 0; utilization = u }
 abbrev pub values_refused : Refusal → Values
 values_refused r = record { question = number_of r.question; member = r.member; utilization = four_ratios no_ratio no_ratio no_ratio no_ratio }
 
+-- the utilization, or the first question answered no
+abbrev pub UtilizationAnswer : Type 0
+UtilizationAnswer = Result Utilization Refusal
+
 abbrev pub values_of : UtilizationAnswer → Values
-values_of (Given u) = values_given u
-values_of (Refused r) = values_refused r
+values_of (Ok u) = values_given u
+values_of (Err r) = values_refused r
 
 -- the questions of a single built member; every refusal names member 1
 abbrev pub utilization_by : Verdict → Member → Values
-utilization_by verdicts.Accepted m = values_given (utilization_of quotient m (outcome_of m))
-utilization_by (verdicts.Refused q) m = values_refused (record { question = q; member = 1 })
+utilization_by (Ok tt) m = values_given (utilization_of quotient m (outcome_of m))
+utilization_by (Err q) m = values_refused (record { question = q; member = 1 })
 
 unfoldable pub utilization_answer : Built → Values
 utilization_answer x = utilization_by (built_verdict x.mark x.kind x.fields.v) (member_of x)

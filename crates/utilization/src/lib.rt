@@ -3,8 +3,7 @@
 
 ghost use Rattle.std.specs.Prelude.{◌≡◌, ◌≤◌};
 ghost use Rattle.member.specs.Member.{beam_of, column_of, mesh_of};
-ghost use Rattle.member.specs.Accepted.{AcceptedBeam, AcceptedColumn, AcceptedMesh, AcceptedMember};
-ghost use Rattle.field_layout.specs.Layout.{member_at};
+ghost use Rattle.field_layout.specs.Valid.{valid_member};
 ghost use Rattle.ratio.specs.Ratio.{quotient, ExactFigures};
 ghost use Rattle.utilization.specs.Utilization.{deflection_limit, beam_utilization, column_utilization, mesh_utilization, utilization_of};
 ghost use Rattle.utilization.specs.Utilized.{Utilized};
@@ -12,23 +11,17 @@ ghost use Rattle.utilization.specs.Utilized.{Utilized};
 use checks::check_member;
 use cracking::width_limit;
 use deflection::span_divisor;
-use field_layout::{beam_of, column_of, mesh_of};
-use field_table::{MemberKind, kind_of};
-use member::{Beam, Column, Mesh};
+use field_layout::{ValidMember, beam_of, column_of, mesh_of};
+use field_table::MemberKind;
+use member::{ValidBeam, ValidColumn, ValidMesh};
 use outcome::Outcome;
 use quantity::{Length, div_down};
-use question::{Refusal, Verdict};
-use ratio::{Utilization, no_ratio, over_figure, over_limit, together};
-use verdict::{Built, built_verdict};
-
-#[derive(Clone, Copy)]
-pub enum UtilizationAnswer {
-    Given(Utilization),
-    // the first question answered no
-    Refused(Refusal),
-}
+use question::Refusal;
+use ratio::{Utilization, over_figure, over_limit, together};
+use verdict::Built;
 
 // The limit of the deflection over a span, 0.01 mm.
+#[tactic(auto, using(deflection::proofs::Bounds::divisor_between), unfolding(crate::specs::Utilization::deflection_limit))]
 fn deflection_limit(l0: Length, strict: u32) -> u64
     requires { l0.0 ≤ 12000 }
     ensures { result ≡ deflection_limit l0.0 strict }
@@ -37,75 +30,75 @@ fn deflection_limit(l0: Length, strict: u32) -> u64
     div_down(span, span_divisor(l0, strict))
 }
 
-fn beam_utilization(x: Beam, o: Outcome) -> Utilization
-    requires { (AcceptedBeam (beam_of x)) × (ExactFigures o) }
-    ensures { result ≡ beam_utilization quotient (beam_of x) o }
+#[tactic(auto, using(crate::proofs::Utilized::width_limit_small, crate::proofs::Utilized::deflection_limit_small), unfolding(crate::specs::Utilization::beam_utilization))]
+fn beam_utilization(x: ValidBeam, o: Outcome) -> Utilization
+    requires { ExactFigures o }
+    ensures { result ≡ beam_utilization quotient (beam_of x.beam) o }
 {
-    let first = o.first;
-    let second = o.second;
-    let third = o.third;
-    let fourth = o.fourth;
     together(
-        over_figure(x.M, first),
-        over_figure(x.v.in_newtons(), second),
-        over_limit(third, width_limit(x.environment)),
-        over_limit(fourth, deflection_limit(x.l0, x.strict)),
+        over_figure(x.beam.M, o.first),
+        over_figure(x.beam.v.in_newtons(), o.second),
+        over_limit(o.third, width_limit(x.beam.environment)),
+        over_limit(o.fourth, deflection_limit(x.beam.l0, x.beam.strict)),
     )
 }
 
-fn column_utilization(x: Column, o: Outcome) -> Utilization
-    requires { (AcceptedColumn (column_of x)) × (ExactFigures o) }
-    ensures { result ≡ column_utilization quotient (column_of x) o }
+#[tactic(auto, unfolding(crate::specs::Utilization::column_utilization))]
+fn column_utilization(x: ValidColumn, o: Outcome) -> Utilization
+    requires { ExactFigures o }
+    ensures { result ≡ column_utilization quotient (column_of x.column) o }
 {
-    let first = o.first;
     together(
-        over_figure(x.N.in_newtons(), first),
-        no_ratio(),
-        no_ratio(),
-        no_ratio(),
+        over_figure(x.column.N.in_newtons(), o.first),
+        None,
+        None,
+        None,
     )
 }
 
-fn mesh_utilization(x: Mesh, o: Outcome) -> Utilization
-    requires { (AcceptedMesh (mesh_of x)) × (ExactFigures o) }
-    ensures { result ≡ mesh_utilization quotient (mesh_of x) o }
+#[tactic(auto, unfolding(crate::specs::Utilization::mesh_utilization))]
+fn mesh_utilization(x: ValidMesh, o: Outcome) -> Utilization
+    requires { ExactFigures o }
+    ensures { result ≡ mesh_utilization quotient (mesh_of x.mesh) o }
 {
-    let first = o.first;
-    let second = o.second;
     together(
-        over_limit(first, x.anchorage.in_millimetres()),
-        over_limit(second, x.lap.in_millimetres()),
-        no_ratio(),
-        no_ratio(),
+        over_limit(o.first, x.mesh.anchorage.in_millimetres()),
+        over_limit(o.second, x.mesh.lap.in_millimetres()),
+        None,
+        None,
     )
 }
 
-// Of an accepted member of this kind with this outcome.
-fn member_utilization(mark: u32, kind: MemberKind, v: &[u32; 40], o: Outcome) -> Utilization
-    requires { (AcceptedMember (member_at mark kind v.now)) × (ExactFigures o) }
-    ensures { result ≡ utilization_of quotient (member_at mark kind v.now) o }
+// Of a member with this outcome.
+#[tactic(auto, unfolding(field_layout::specs::Layout::member_at))]
+fn member_utilization(x: &ValidMember, o: Outcome) -> Utilization
+    requires { ExactFigures o }
+    ensures { result ≡ utilization_of quotient (valid_member x.now) o }
 {
-    match kind {
-        MemberKind::Beam(pointLoad) => beam_utilization(beam_of(pointLoad, v), o),
-        MemberKind::Column => column_utilization(column_of(v), o),
-        MemberKind::Mesh => mesh_utilization(mesh_of(v), o),
+    let v = &x.fields.v;
+    match x.kind {
+        MemberKind::Beam(pointLoad) => beam_utilization(
+            ValidBeam {
+                beam: beam_of(pointLoad, v),
+            },
+            o,
+        ),
+        MemberKind::Column => column_utilization(
+            ValidColumn {
+                column: column_of(v),
+            },
+            o,
+        ),
+        MemberKind::Mesh => mesh_utilization(ValidMesh { mesh: mesh_of(v) }, o),
     }
 }
 
-// The utilization of a member that a caller built.
-pub fn utilization_of(x: Built) -> UtilizationAnswer
+// The utilization of a member that a caller built, or the first question answered no.
+#[tactic(auto, using(crate::proofs::Utilized::refused))]
+pub fn utilization_of(x: Built) -> Result<Utilization, Refusal>
     ensures { Utilized x result }
 {
-    let v = x.fields.v;
-    match built_verdict(x.mark, x.kind, &v) {
-        Verdict::Refused(q) => UtilizationAnswer::Refused(Refusal {
-            question: q,
-            member: 1,
-        }),
-        Verdict::Accepted => {
-            let kind = kind_of(x.kind);
-            let o = check_member(x.mark, kind, &v);
-            UtilizationAnswer::Given(member_utilization(x.mark, kind, &v, o))
-        }
-    }
+    let member = x.validate().map_err(|q| q.at(1))?;
+    let o = check_member(&member);
+    Ok(member_utilization(&member, o))
 }

@@ -11,11 +11,10 @@ use lib.ListN.{length, get_or, drop, length-append}
 use lib.Seq.{get_or-append_seam, drop-cons}
 use lib.Dec.{ltb}
 use borrow.Author.Tests.{lt-ltb, le-ltb, ltb-true, ltb-false, eq-eqb}
-use Rattle.std.specs.Prelude.{if◌then◌else◌}
+use Rattle.std.specs.Prelude.{if◌then◌else◌, Err, Ok}
 use Rattle.quantity.proofs.Rounding.{expand}
 use Rattle.question.specs.declared.Question.TheVariants.{NumberForm}
-use Rattle.varint.specs.declared.Number.{Number}
-use Rattle.varint.specs.declared.Number.TheVariants.{Value, Refused}
+use Rattle.varint.specs.Varint.{Number}
 use Rattle.varint.specs.Varint.{number_at, septets_at, last_septet}
 use Rattle.varint.specs.Encoding.{septets_of, bytes_of, Bytes}
 use Rattle.varint.proofs.Septets.{last_septet_at, septet_follows, Ended, septets_inv, refused_no_value}
@@ -25,7 +24,7 @@ use Rattle.quantity.proofs.Choice.{if_case}
 
 -- the number v, with p the place after it: question 3 where v is 2 ^ 32 or more
 abbrev sized : ℕ → ℕ → Number
-sized v p = if ltb v (2 ^ 32) then Value v p else Refused NumberForm
+sized v p = if ltb v (2 ^ 32) then Ok (v, p) else Err NumberForm
 
 -- a byte after a prefix stands inside the list
 inside : (pre : List ℕ) (b : ℕ) (tl : List ℕ) → length pre < length (pre ++ b ∷ tl)
@@ -74,7 +73,7 @@ septets_back (suc k) u h pre rest w v z =
 
 -- the bytes of a number below 2 ^ 32 are read as it, wherever they stand
 pub bytes_read : (v : ℕ) → v < 2 ^ 32 → (pre rest : List ℕ)
-    → number_at (pre ++ (bytes_of v ++ rest)) (length pre) ≡ Value v (length pre + length (bytes_of v))
+    → number_at (pre ++ (bytes_of v ++ rest)) (length pre) ≡ Ok (v, length pre + length (bytes_of v))
 unfolding number_at bytes_of
 bytes_read v h pre rest =
     let e : 0 + v * 1 ≡ v = omega arith in
@@ -134,7 +133,7 @@ module _ (s : List ℕ) (small : Bytes s) where
         form = inl (omega arith);
       }
 
-  encodes : (k p w v x next : ℕ) → septets_at (suc k) s p w v ≡ Value x next → Encodes k s p w v x next
+  encodes : (k p w v x next : ℕ) → septets_at (suc k) s p w v ≡ Ok (x, next) → Encodes k s p w v x next
   unfolding septets_at
   encodes zero p w v x next r =
       let c = septets_inv 0 s p w v x next r in
@@ -147,7 +146,7 @@ module _ (s : List ℕ) (small : Bytes s) where
       c.1
 
   -- the bytes that were read as v are those of v
-  pub only_bytes : (at v next : ℕ) → number_at s at ≡ Value v next → drop at s ≡ bytes_of v ++ drop next s
+  pub only_bytes : (at v next : ℕ) → number_at s at ≡ Ok (v, next) → drop at s ≡ bytes_of v ++ drop next s
   unfolding number_at bytes_of
   only_bytes at v next r =
       let i = encodes 4 at 1 0 v next r in

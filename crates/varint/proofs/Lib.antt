@@ -1,3 +1,4 @@
 pub mod Septets
+pub mod Moved
 pub mod Encoded
 pub mod Examples

@@ -1,5 +1,6 @@
 -- The steps of `septets_at` as the loop of `long_number` takes them, the bounds of its sums, and the inversion: what a value that was read says
 -- of the septets.
+use Rattle.std.specs.Prelude.{Err, Ok}
 use mathlib.Core.Path.{◌≡◌, refl, sym, ap, ◌∙◌}
 use mathlib.Core.Bool.{Bool, true, false, ◌&&◌, ◌||◌, false≢true, or-true}
 use mathlib.Core.List.{List}
@@ -13,8 +14,7 @@ use borrow.Author.Tests.{lt-ltb, le-ltb, le-leb, lt-leb, ltb-true, ltb-false, le
 use Rattle.quantity.proofs.Choice.{if_case}
 use Rattle.question.specs.declared.Question.{Question}
 use Rattle.question.specs.declared.Question.TheVariants.{NumberEnds, NumberForm}
-use Rattle.varint.specs.declared.Number.{Number}
-use Rattle.varint.specs.declared.Number.TheVariants.{Value, Refused}
+use Rattle.varint.specs.Varint.{Number}
 use Rattle.varint.specs.Varint.{number_at, septets_at, last_septet}
 
 -- ---- One step.
@@ -23,7 +23,7 @@ module _ (s : List ℕ) (left p w v : ℕ) (h : 0 < left) where
   one_less : left ≡ suc (left - 1)
   one_less = omega arith
 
-  pub file_ends : length s ≤ p → septets_at left s p w v ≡ Refused NumberEnds
+  pub file_ends : length s ≤ p → septets_at left s p w v ≡ Err NumberEnds
   unfolding septets_at
   file_ends e = rw one_less (simp (le-leb _ _ e))
 
@@ -38,13 +38,13 @@ module _ (s : List ℕ) (left p w v : ℕ) (h : 0 < left) where
       ap (λ (k : ℕ). septets_at k s p w v) one_less ∙ rw q (simp (lt-leb _ _ e, le-ltb _ _ (rw q at t)))
 
 -- the only septet is the number
-pub only_septet : (b next : ℕ) → b < 128 → last_septet b 1 0 next ≡ Value b next
+pub only_septet : (b next : ℕ) → b < 128 → last_septet b 1 0 next ≡ Ok (b, next)
 unfolding last_septet
 only_septet b next h =
     let e : 0 + b * 1 ≡ b = omega arith in
     rw e (simp (or-true, lt-ltb b (2 ^ 32) (omega arith)))
 
-pub none_left : (s : List ℕ) (left p w v : ℕ) → left ≤ 0 → septets_at left s p w v ≡ Refused NumberForm
+pub none_left : (s : List ℕ) (left p w v : ℕ) → left ≤ 0 → septets_at left s p w v ≡ Err NumberForm
 unfolding septets_at
 none_left s left p w v h = let e : left ≡ 0 = omega arith in rw e
 
@@ -86,8 +86,14 @@ below b w v hb hv = let e : b ≤ 127 = omega arith in omega (arith, mul-le-mul_
 
 -- ---- Inversion.
 
-pub refused_no_value : {q : Question} {v next : ℕ} → Refused q ≡ Value v next → ⊥
+pub refused_no_value : {q : Question} {v next : ℕ} → ◌≡◌ {A = Number} (Err q) (Ok (v, next)) → ⊥
 refused_no_value r = let z : ◌≡◌ {A = ℕ} 0 1 = cc in omega arith
+
+-- two answers that are the same have the same number and the same place after it
+pub same_value : (x next y after : ℕ) → ◌≡◌ {A = Number} (Ok (x, next)) (Ok (y, after)) → (x ≡ y) × (next ≡ after)
+same_value x next y after r =
+    let e : ◌≡◌ {A = ℕ × ℕ} (x, next) (y, after) = cc in
+    (ap (λ (p : ℕ × ℕ). p.0) e, ap (λ (p : ℕ × ℕ). p.1) e)
 
 -- the value x, whose last septet is b
 pub record Ended (b w v end x next : ℕ) : Type 0 where
@@ -103,18 +109,17 @@ or_and_inv false true true e = (inr refl, refl)
 or_and_inv false true false e = absurd (false≢true e)
 or_and_inv false false c e = absurd (false≢true e)
 
-pub last_inv : (b w v end x next : ℕ) → last_septet b w v end ≡ Value x next → Ended b w v end x next
+pub last_inv : (b w v end x next : ℕ) → last_septet b w v end ≡ Ok (x, next) → Ended b w v end x next
 unfolding last_septet
 last_inv b w v end x next =
-    if_case (λ (n : Number). n ≡ Value x next → Ended b w v end x next) ((ltb 0 b || eqb w 1) && ltb (v + b * w) (2 ^ 32)) _ _
+    if_case (λ (n : Number). n ≡ Ok (x, next) → Ended b w v end x next) ((ltb 0 b || eqb w 1) && ltb (v + b * w) (2 ^ 32)) _ _
     (λ t r.
     let e = or_and_inv _ _ _ t in
-    let a : v + b * w ≡ x = cc in
-    let n : end ≡ next = cc in
+    let same = same_value _ _ _ _ r in
     record {
-      value = sym a;
-      after = sym n;
-      fits = rw (← a) (ltb-true _ _ e.1);
+      value = sym same.0;
+      after = sym same.1;
+      fits = rw (← same.0) (ltb-true _ _ e.1);
       form = ⊎_elim (λ f. inl (ltb-true _ _ f)) (λ f. inr (eqb-true _ _ f)) e.0;
     })
     (λ _ r. absurd (refused_no_value r))
@@ -124,13 +129,13 @@ abbrev pub Cases : ℕ → List ℕ → ℕ → ℕ → ℕ → ℕ → ℕ → 
 Cases left s p w v x next =
     let b = get_or s p 0 in
     (p < length s) × (((b < 128) × Ended b w v (p + 1) x next)
-    ⊎ ((128 ≤ b) × (septets_at left s (p + 1) (w * 128) (v + (b - 128) * w) ≡ Value x next)))
+    ⊎ ((128 ≤ b) × (septets_at left s (p + 1) (w * 128) (v + (b - 128) * w) ≡ Ok (x, next))))
 
-pub septets_inv : (left : ℕ) (s : List ℕ) (p w v x next : ℕ) → septets_at (suc left) s p w v ≡ Value x next → Cases left s p w v x next
+pub septets_inv : (left : ℕ) (s : List ℕ) (p w v x next : ℕ) → septets_at (suc left) s p w v ≡ Ok (x, next) → Cases left s p w v x next
 unfolding septets_at
 septets_inv left s p w v x next =
-    if_case (λ (n : Number). n ≡ Value x next → Cases left s p w v x next) (leb (length s) p) _ _
+    if_case (λ (n : Number). n ≡ Ok (x, next) → Cases left s p w v x next) (leb (length s) p) _ _
     (λ _ r. absurd (refused_no_value r))
-    (λ t. if_case (λ (n : Number). n ≡ Value x next → Cases left s p w v x next) (ltb (get_or s p 0) 128) _ _
+    (λ t. if_case (λ (n : Number). n ≡ Ok (x, next) → Cases left s p w v x next) (ltb (get_or s p 0) 128) _ _
     (λ u r. (leb-false _ _ t, inl (ltb-true _ _ u, last_inv _ _ _ _ _ _ r)))
     (λ u r. (leb-false _ _ t, inr (ltb-false _ _ u, r))))

@@ -1,2 +1,4 @@
 pub mod Varint
 pub mod Encoding
+pub mod Placed
+pub mod Moved

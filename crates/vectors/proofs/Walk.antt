@@ -1,4 +1,5 @@
 -- Laws of the walk over the vectors of a row.
+use mir.Val.{bool_byte}
 use Prim.Native.Nat.{ℕ, zero, suc, ◌+◌, ◌-◌, ◌≤◌, ◌<◌}
 use mathlib.Core.Path.{◌≡◌, refl, ap, ◌∙◌}
 use mathlib.Core.Bool.{Bool, true, false}
@@ -39,6 +40,11 @@ left s v p = starts_from (length s - v) s p
 pub all_left : (s : List ℕ) → left s 0 0 ≡ starts s
 unfolding starts
 all_left s = let e : length s - 0 ≡ length s = omega arith in rw e
+
+-- a test as a number
+pub counted : (b : Bool) → bool_byte b ≡ one_if b
+counted true = refl
+counted false = refl
 
 pub one_most : (b : Bool) → one_if b ≤ 1
 one_most true = omega arith

@@ -1,4 +1,5 @@
 -- Words read from bytes, and what is written for them.
+use Rattle.std.specs.Prelude.{Err, Ok}
 use Prim.Native.Nat.{ℕ, zero, suc, ◌+◌, ◌-◌, ◌/◌, ◌^◌, ◌≤◌, ◌<◌}
 use mathlib.Core.Path.{◌≡◌, refl, sym, ap, ◌∙◌}
 use mathlib.Core.List.{List, [], ◌∷◌, ◌++◌}
@@ -12,8 +13,7 @@ use Rattle.line.specs.Line.{refusal_words, line_text}
 use Rattle.line.proofs.Length.{refusal_short}
 use Rattle.question.specs.declared.Refusal.{Refusal}
 use Rattle.question.specs.Question.{number_of}
-use Rattle.text_answer.specs.declared.TextAnswer.{TextAnswer}
-use Rattle.text_answer.specs.declared.TextAnswer.TheVariants as answers
+use Rattle.text_answer.specs.Printed.{TextAnswer}
 use Rattle.text_answer.specs.Printed.{numbers_of}
 use Rattle.writer.specs.Written.{file_of, file_too_long, ScheduleWritten}
 use Rattle.writer.proofs.Written.{file_fits}
@@ -70,11 +70,11 @@ module _ (words d d₁ : List ℕ) (a : TextAnswer) (room : length d ≡ 60000) 
       let w = o.whole (omega arith) in
       rw w.1 (holds_front (shown (file_of words)) (drop (length (shown (file_of words))) d) n w.0)
 
-  pub was_written : (n : ℕ) → a ≡ answers.Written n → Holds d₁ n (written_of words)
+  pub was_written : (n : ℕ) → a ≡ Ok n → Holds d₁ n (written_of words)
   was_written n e = whole_held d₁ n (written file_too_long d d₁ n (file_of words) (omega arith) (ap numbers_of (sym e) ∙ p.answer_is) p.buffer_is)
 
   -- k is the question's number as the code has it; it and the member's have at most ten digits
-  pub was_refused : (r : Refusal) (k : ℕ) (d' : List ℕ) (n : ℕ) → a ≡ answers.Refused r → k < 10 ^ 10 → r.member < 10 ^ 10 → k ≡ number_of r.question →
+  pub was_refused : (r : Refusal) (k : ℕ) (d' : List ℕ) (n : ℕ) → a ≡ Err r → k < 10 ^ 10 → r.member < 10 ^ 10 → k ≡ number_of r.question →
       Put d₁ 0 (line_text (refusal_words k r.member)) d' n → Holds d' n (written_of words)
   was_refused r k d' n e h g i w =
       let u : length (line_text (refusal_words k r.member)) ≤ 60000 = omega (arith, refusal_short 10 10 k r.member (omega arith) (omega arith) h g) in

@@ -7,13 +7,12 @@
 
 ghost use Rattle.std.specs.Prelude.{◌≡◌, ◌+◌, ◌≤◌, ◌<◌, length, get_or, take};
 ghost use Rattle.program_output.specs.ProgramOutput.{output_of};
-ghost use Rattle.vectors.specs.Vectors.{same_bytes, Holds, pair_at, word_at, words_of, written_of, answer_to, part_end, equal_at, one_if, row_tally, tally_of};
+ghost use Rattle.vectors.specs.Vectors.{same_bytes, Holds, pair_at, word_at, words_of, written_of, answer_to, part_end, equal_at, row_tally, tally_of};
 
 use line::put_refusal;
 use program_output::print_schedule;
-use question::number_of;
 use std::io::Read;
-use text_answer::TextAnswer;
+use text::Writer;
 use writer::write_schedule;
 
 #[derive(Clone, Copy)]
@@ -22,23 +21,11 @@ struct Tally {
     equal: u64,
 }
 
-fn one_if(b: bool) -> u64
-    ensures { result ≡ one_if b }
-{
-    if b { 1 } else { 0 }
-}
-
-fn widen(x: u8) -> usize
-    ensures { (result ≡ x) × (result < 256) }
-{
-    x as usize
-}
-
 // The byte at p, and 0 past the end.
 fn byte_at(src: &[u8], p: usize) -> usize
     ensures { (result ≡ get_or src.now p 0) × (result < 256) }
 {
-    if p < src.len() { widen(src[p]) } else { 0 }
+    src.get(p).map_or(0, |b| *b as usize)
 }
 
 // The number in the two bytes at p.
@@ -60,17 +47,7 @@ fn part_end(src: &[u8], p: usize) -> usize
 fn same(a: &[u8], b: &[u8]) -> bool
     ensures { result ≡ same_bytes a.now b.now }
 {
-    if a.len() != b.len() {
-        return false;
-    }
-    let mut i: usize = 0;
-    while i < a.len() {
-        if a[i] != b[i] {
-            return false;
-        }
-        i += 1;
-    }
-    true
+    a == b
 }
 
 // The number in the four bytes at p.
@@ -87,12 +64,8 @@ fn read_words(src: &[u8], words: &mut [u32]) -> usize
     ensures { Holds words.new result (words_of src.now) }
 {
     let n = src.len() / 4;
-    let mut i: usize = 0;
-    let mut p: usize = 0;
-    while i < n {
-        words[i] = word_at(src, p);
-        i += 1;
-        p += 4;
+    for i in 0..n {
+        words[i] = word_at(src, 4 * i);
     }
     n
 }
@@ -103,10 +76,11 @@ fn write_words(words: &[u32], out: &mut [u8]) -> usize
     ensures { Holds out.new result (written_of words.now) }
 {
     match write_schedule(words, out) {
-        TextAnswer::Written(n) => n,
-        TextAnswer::Refused(r) => {
-            let question = r.question;
-            put_refusal(out, 0, number_of(question), r.member)
+        Ok(n) => n,
+        Err(r) => {
+            let mut w = Writer::new(out);
+            put_refusal(&mut w, u32::from(r.question), r.member);
+            w.at
         }
     }
 }
@@ -166,16 +140,14 @@ fn row_tally(src: &[u8]) -> Tally
 {
     let mut vectors: u64 = 0;
     let mut equal: u64 = 0;
-    let mut p: usize = 0;
+    let mut p = 0;
+    // a `while`: where a vector ends stands in its bytes
     while p < src.len() {
-        equal += one_if(equal_at(src, p));
+        equal += u64::from(equal_at(src, p));
         vectors += 1;
         p = part_end(src, part_end(src, p + 1));
     }
-    Tally {
-        vectors: vectors,
-        equal: equal,
-    }
+    Tally { vectors, equal }
 }
 
 // The tally of the first n bytes of `all`, which has room for one byte more than an input may have, so that a longer one is seen.
@@ -185,21 +157,21 @@ fn input_tally(all: &[u8], n: usize) -> Tally
 {
     let t = row_tally(&all[..n]);
     Tally {
-        vectors: t.vectors + one_if(320000 < n),
+        vectors: t.vectors + u64::from(320000 < n),
         equal: t.equal,
     }
 }
 
 // Reads until the buffer is full, the input ends or a read fails: how many bytes stand at the buffer's start.
+// A `while`: how many bytes a read brings is known only after it.
 fn read_full<R: Read>(input: &mut R, buf: &mut [u8]) -> usize
     ensures { (result ≤ length buf.new) × (result ≡ length (take result buf.new)) }
 {
     let mut n: usize = 0;
     while n < buf.len() {
         match input.read(&mut buf[n..]) {
-            Ok(0) => break,
+            Ok(0) | Err(_) => break,
             Ok(more) => n += more,
-            Err(_) => break,
         }
     }
     n

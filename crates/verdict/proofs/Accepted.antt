@@ -1,4 +1,5 @@
 -- What an accepted member satisfies.
+use Rattle.std.specs.Prelude.{Ok}
 use Prim.Native.Nat.{ℕ, ◌*◌, ◌≤◌}
 use mathlib.Core.Path.{◌≡◌, refl}
 use mathlib.Core.Bool.{Bool, true, false}
@@ -22,12 +23,11 @@ use Rattle.field_check.specs.FieldCheck.{fields_hold}
 use Rattle.field_layout.specs.Layout.{member_at, groups_at, beam_at, column_at, mesh_at}
 use Rattle.field_domain.proofs.InRange.{in_between}
 use Rattle.field_layout.proofs.Held.{in_range_lem, zero_or, in_bars, a_grade, a_steel, a_link_steel, groups_some, beam_fields_held, beam_held, tension_accepted, compression_accepted, column_held, column_groups_accepted, mesh_held}
-use Rattle.question.specs.declared.Verdict.{Verdict}
-use Rattle.question.specs.declared.Verdict.TheVariants.{Accepted}
+use Rattle.question.specs.Reading.{Verdict}
 use Rattle.verdict.specs.Verdict.{mark_in_range, member_verdict, fields_verdict, built_verdict, ask_verdict, beam_verdict, column_verdict, mesh_verdict}
 
 -- an accepted member had a yes to the question
-pub asked_yes : (q : Question) (t : Bool) (next : Verdict) → ask_verdict q t next ≡ Accepted → (t ≡ true) × (next ≡ Accepted)
+pub asked_yes : (q : Question) (t : Bool) (next : Verdict) → ask_verdict q t next ≡ (Ok tt) → (t ≡ true) × (next ≡ (Ok tt))
 asked_yes q true next e = (refl, e)
 asked_yes q false next e = absurd (let z : ◌≡◌ {A = ℕ} 0 1 = cc in omega arith)
 
@@ -84,7 +84,7 @@ module _ (pointLoad : Bool) (v : List ℕ) (e : fields_hold beam_fields 0 v ≡ 
         service_moment = m;
       }
 
-  pub accepted_beam : beam_verdict (beam_at pointLoad v) ≡ Accepted → AcceptedBeam (beam_at pointLoad v)
+  pub accepted_beam : beam_verdict (beam_at pointLoad v) ≡ (Ok tt) → AcceptedBeam (beam_at pointLoad v)
   unfolding beam_verdict beam_at
   accepted_beam a =
       let x = beam_at pointLoad v in
@@ -97,7 +97,7 @@ module _ (pointLoad : Bool) (v : List ℕ) (e : fields_hold beam_fields 0 v ≡ 
 -- ---- A column.
 
 module _ (v : List ℕ) (e : fields_hold column_fields 0 v ≡ true) where
-  pub accepted_column : column_verdict (column_at v) ≡ Accepted → AcceptedColumn (column_at v)
+  pub accepted_column : column_verdict (column_at v) ≡ (Ok tt) → AcceptedColumn (column_at v)
   unfolding column_verdict column_at
   accepted_column a =
       let x = column_at v in
@@ -122,7 +122,7 @@ module _ (v : List ℕ) (e : fields_hold column_fields 0 v ≡ true) where
 -- ---- A mesh.
 
 module _ (v : List ℕ) (e : fields_hold mesh_fields 0 v ≡ true) where
-  pub accepted_mesh : mesh_verdict (mesh_at v) ≡ Accepted → AcceptedMesh (mesh_at v)
+  pub accepted_mesh : mesh_verdict (mesh_at v) ≡ (Ok tt) → AcceptedMesh (mesh_at v)
   unfolding mesh_verdict mesh_at
   accepted_mesh a =
       let x = mesh_at v in
@@ -151,7 +151,7 @@ module _ (mark : ℕ) (v : List ℕ) (m : mark_in_range mark ≡ true) where
   unfolding mark_in_range
   in_marks = in_between {lo = 1} {hi = 999999} m
 
-  pub accepted_member : (kind : MemberKind) → fields_hold (fields_of kind) 0 v ≡ true → member_verdict kind v ≡ Accepted → AcceptedMember (member_at mark kind v)
+  pub accepted_member : (kind : MemberKind) → fields_hold (fields_of kind) 0 v ≡ true → member_verdict kind v ≡ (Ok tt) → AcceptedMember (member_at mark kind v)
   unfolding member_at member_verdict fields_of
   accepted_member (kinds.Beam pointLoad) e a = (in_marks, accepted_beam pointLoad v (beam_fields_held pointLoad v e) a)
   accepted_member kinds.Column e a = (in_marks, accepted_column v e a)
@@ -164,9 +164,9 @@ pub record BuiltPassed (mark number : ℕ) (v : List ℕ) : Type 0 where
   pub mark_in_range_lem : mark_in_range mark ≡ true
   pub is_known : known number ≡ true
   pub held : fields_hold (fields_of (kind_of number)) 0 v ≡ true
-  pub verdict : member_verdict (kind_of number) v ≡ Accepted
+  pub verdict : member_verdict (kind_of number) v ≡ (Ok tt)
 
-pub built_passed : (mark number : ℕ) (v : List ℕ) → built_verdict mark number v ≡ Accepted → BuiltPassed mark number v
+pub built_passed : (mark number : ℕ) (v : List ℕ) → built_verdict mark number v ≡ (Ok tt) → BuiltPassed mark number v
 unfolding built_verdict fields_verdict
 built_passed mark number v a =
     let m = asked_yes Mark (mark_in_range mark) _ a in
@@ -175,7 +175,7 @@ built_passed mark number v a =
     record { mark_in_range_lem = m.0; is_known = k.0; held = f.0; verdict = f.1 }
 
 -- what it satisfies
-pub accepted_built : (mark number : ℕ) (v : List ℕ) → built_verdict mark number v ≡ Accepted → AcceptedMember (member_at mark (kind_of number) v)
+pub accepted_built : (mark number : ℕ) (v : List ℕ) → built_verdict mark number v ≡ (Ok tt) → AcceptedMember (member_at mark (kind_of number) v)
 accepted_built mark number v a =
     let p = built_passed mark number v a in
     accepted_member mark v p.mark_in_range_lem (kind_of number) p.held p.verdict

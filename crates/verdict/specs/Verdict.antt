@@ -1,6 +1,6 @@
 -- The questions of a whole member, 8 to 10 and then 14, and those of a single built member.
 -- (document 01, "Questions before any check"; 14: document 02, request 5)
-use Rattle.std.specs.Prelude.{ℕ, Bool, List, if◌then◌else◌}
+use Rattle.std.specs.Prelude.{ℕ, Bool, List, if◌then◌else◌, Err, Ok}
 use Rattle.question.specs.declared.Question.{Question}
 use Rattle.question.specs.declared.Question.TheVariants.{Mark, Kind, Field, Consistency, Bars, Ratio, ServiceMoment}
 use Rattle.member.specs.Member.{Beam, Column, Mesh, Member, beam, column, mesh}
@@ -12,12 +12,11 @@ use Rattle.field_table.specs.declared.MemberKind.{MemberKind}
 use Rattle.field_table.specs.Fields.{known, kind_of, fields_of}
 use Rattle.field_check.specs.FieldCheck.{fields_hold}
 use Rattle.field_layout.specs.Layout.{member_at}
-use Rattle.question.specs.declared.Verdict.{Verdict}
-use Rattle.question.specs.declared.Verdict.TheVariants.{Accepted, Refused}
+use Rattle.question.specs.Reading.{Verdict}
 
 -- question q is put: a no is the answer
 abbrev pub ask_verdict : Question → Bool → Verdict → Verdict
-ask_verdict q holds next = if holds then next else Refused q
+ask_verdict q holds next = if holds then next else Err q
 
 -- 8, 9, 10, 14
 unfoldable pub beam_verdict : Beam → Verdict
@@ -25,15 +24,15 @@ beam_verdict x =
     ask_verdict Consistency (beam_consistent x)
     (ask_verdict Bars (beam_bars x)
     (ask_verdict Ratio (beam_ratio x)
-    (ask_verdict ServiceMoment (service_moment_fits x) Accepted)))
+    (ask_verdict ServiceMoment (service_moment_fits x) (Ok tt))))
 
 -- 8, 9
 unfoldable pub column_verdict : Column → Verdict
-column_verdict x = ask_verdict Consistency (column_consistent x) (ask_verdict Bars (column_bars x) Accepted)
+column_verdict x = ask_verdict Consistency (column_consistent x) (ask_verdict Bars (column_bars x) (Ok tt))
 
 -- 8
 unfoldable pub mesh_verdict : Mesh → Verdict
-mesh_verdict x = ask_verdict Consistency (mesh_consistent x) Accepted
+mesh_verdict x = ask_verdict Consistency (mesh_consistent x) (Ok tt)
 
 abbrev pub verdict_of : Member → Verdict
 verdict_of (beam mark x) = beam_verdict x

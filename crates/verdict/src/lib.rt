@@ -1,18 +1,20 @@
 // The questions of a whole member in slots, and those put to a single built member.
 #![tactic(auto)]
 
-ghost use Rattle.std.specs.Prelude.{◌≡◌, true};
+ghost use Rattle.std.specs.Prelude.{◌≡◌, true, Ok};
 ghost use Rattle.field_table.specs.Fields.{beam_fields, column_fields, fields_of};
 ghost use Rattle.field_check.specs.FieldCheck.{fields_hold};
 ghost use Rattle.field_layout.specs.Layout.{beam_at, column_at, mesh_at};
+ghost use Rattle.verdict.specs.Built.{Validated};
 ghost use Rattle.verdict.specs.Verdict.{ask_verdict, beam_verdict, column_verdict, mesh_verdict, member_verdict, mark_in_range, fields_verdict, built_verdict};
 
 use consistency::{beam_consistent, column_consistent, mesh_consistent};
 use field_check::{Slots, fields_hold};
 use field_domain::in_range;
-use field_layout::{beam_of, column_of, mesh_of};
+use field_layout::{ValidMember, beam_of, column_of, mesh_of};
 use field_table::{MemberKind, is_known, kind_of};
-use question::{Question, Verdict};
+use member::RangedBeam;
+use question::Question;
 use reinforcement::{beam_bars, beam_ratio, column_bars};
 use service_moment::service_moment_fits;
 
@@ -24,54 +26,50 @@ pub struct Built {
     pub fields: Slots,
 }
 
-// Question q is put before those that came to `next`: its no is the answer.
-fn ask(q: Question, holds: bool, next: Verdict) -> Verdict
-    ensures { result ≡ ask_verdict q holds next }
+// Question q is put: a no is the answer.
+fn ask(q: Question, holds: bool) -> Result<(), Question>
+    ensures { result ≡ ask_verdict q holds (Ok tt) }
 {
-    if holds { next } else { Verdict::Refused(q) }
+    if holds { Ok(()) } else { Err(q) }
 }
 
-// 8, 9, 10 and 14 of a beam whose fields passed question 7. All are worked out; the first no is the answer.
-fn beam_verdict(pointLoad: bool, v: &[u32; 40]) -> Verdict
+// 8, 9, 10 and 14 of a beam whose fields passed question 7, each after a yes to the one before.
+#[tactic(auto, unfolding(crate::specs::Verdict::beam_verdict))]
+fn beam_verdict(pointLoad: bool, v: &[u32; 40]) -> Result<(), Question>
     requires { fields_hold beam_fields 0 v.now ≡ true }
     ensures { result ≡ beam_verdict (beam_at pointLoad v.now) }
 {
-    let x = beam_of(pointLoad, v);
-    let consistent = beam_consistent(x);
-    let bars = beam_bars(x);
-    let ratio = beam_ratio(x);
-    let service = service_moment_fits(x);
-    let after10 = ask(Question::ServiceMoment, service, Verdict::Accepted);
-    let after9 = ask(Question::Ratio, ratio, after10);
-    let after8 = ask(Question::Bars, bars, after9);
-    ask(Question::Consistency, consistent, after8)
+    let x = RangedBeam {
+        beam: beam_of(pointLoad, v),
+    };
+    ask(Question::Consistency, beam_consistent(x))?;
+    ask(Question::Bars, beam_bars(x))?;
+    ask(Question::Ratio, beam_ratio(x))?;
+    ask(Question::ServiceMoment, service_moment_fits(x.beam))
 }
 
 // 8 and 9 of a column whose fields passed question 7.
-fn column_verdict(v: &[u32; 40]) -> Verdict
+#[tactic(auto, using(field_layout::proofs::Held::column_groups_of), unfolding(crate::specs::Verdict::column_verdict))]
+fn column_verdict(v: &[u32; 40]) -> Result<(), Question>
     requires { fields_hold column_fields 0 v.now ≡ true }
     ensures { result ≡ column_verdict (column_at v.now) }
 {
     let x = column_of(v);
-    let consistent = column_consistent(x);
-    let bars = column_bars(x);
-    let after8 = ask(Question::Bars, bars, Verdict::Accepted);
-    ask(Question::Consistency, consistent, after8)
+    ask(Question::Consistency, column_consistent(x))?;
+    ask(Question::Bars, column_bars(x))
 }
 
 // 8 of a mesh.
-fn mesh_verdict(v: &[u32; 40]) -> Verdict
+#[tactic(auto, unfolding(crate::specs::Verdict::mesh_verdict))]
+fn mesh_verdict(v: &[u32; 40]) -> Result<(), Question>
     ensures { result ≡ mesh_verdict (mesh_at v.now) }
 {
-    ask(
-        Question::Consistency,
-        mesh_consistent(mesh_of(v)),
-        Verdict::Accepted,
-    )
+    ask(Question::Consistency, mesh_consistent(mesh_of(v)))
 }
 
 // The questions of a whole member whose fields passed question 7.
-pub fn member_verdict(kind: MemberKind, v: &[u32; 40]) -> Verdict
+#[tactic(auto, using(field_layout::proofs::Held::beam_fields_held), unfolding(crate::specs::Verdict::member_verdict, field_layout::specs::Layout::member_at, field_table::specs::Fields::fields_of))]
+pub fn member_verdict(kind: MemberKind, v: &[u32; 40]) -> Result<(), Question>
     requires { fields_hold (fields_of kind) 0 v.now ≡ true }
     ensures { result ≡ member_verdict kind v.now }
 {
@@ -83,6 +81,7 @@ pub fn member_verdict(kind: MemberKind, v: &[u32; 40]) -> Verdict
 }
 
 // 5: a mark in range.
+#[tactic(auto, unfolding(crate::specs::Verdict::mark_in_range))]
 pub fn mark_in_range(mark: u32) -> bool
     ensures { result ≡ mark_in_range mark }
 {
@@ -90,27 +89,42 @@ pub fn mark_in_range(mark: u32) -> bool
 }
 
 // 7, and the questions of a whole member of this kind.
-fn fields_verdict(kind: MemberKind, v: &[u32; 40]) -> Verdict
+#[tactic(auto, unfolding(crate::specs::Verdict::fields_verdict))]
+fn fields_verdict(kind: MemberKind, v: &[u32; 40]) -> Result<(), Question>
     ensures { result ≡ fields_verdict kind v.now }
 {
     if fields_hold(kind, v) {
         member_verdict(kind, v)
     } else {
-        Verdict::Refused(Question::Field)
+        Err(Question::Field)
     }
 }
 
 // The questions put to a single built member with this mark, the kind of this number and these slots.
-pub fn built_verdict(mark: u32, number: u32, v: &[u32; 40]) -> Verdict
+#[tactic(auto, unfolding(crate::specs::Verdict::built_verdict))]
+pub fn built_verdict(mark: u32, number: u32, v: &[u32; 40]) -> Result<(), Question>
     ensures { result ≡ built_verdict mark number v.now }
 {
-    if mark_in_range(mark) {
-        if is_known(number) {
-            fields_verdict(kind_of(number), v)
-        } else {
-            Verdict::Refused(Question::Kind)
-        }
-    } else {
-        Verdict::Refused(Question::Mark)
+    if !mark_in_range(mark) {
+        return Err(Question::Mark);
+    }
+    if !is_known(number) {
+        return Err(Question::Kind);
+    }
+    fields_verdict(kind_of(number), v)
+}
+
+impl Built {
+    // The same: the member that passed them, or the first answered no.
+    #[tactic(auto, using(crate::proofs::Accepted::accepted_built))]
+    pub fn validate(self) -> Result<ValidMember, Question>
+        ensures { Validated self result }
+    {
+        built_verdict(self.mark, self.kind, &self.fields.v)?;
+        Ok(ValidMember {
+            mark: self.mark,
+            kind: kind_of(self.kind),
+            fields: self.fields,
+        })
     }
 }

@@ -1,27 +1,28 @@
 // Crushing of the web of a beam.
-#![tactic(auto)]
+#![tactic(auto, using(crate::proofs::Bounds::sizes))]
 
 ghost use Rattle.std.specs.Prelude.{◌≡◌};
-ghost use Rattle.section.specs.Bounded.{Bounded};
 ghost use Rattle.web_crushing.specs.Steps.{scaled_width, web_holds};
 
-use quantity::{clamped, saturating_sub};
-use section::Section;
+use quantity::clamped;
+use section::ValidSection;
 
 // 40·β·b.
-fn scaled_width(x: Section) -> u64
-    requires { Bounded x }
-    ensures { result ≡ scaled_width x }
+fn scaled_width(x: ValidSection) -> u64
+    ensures { result ≡ scaled_width x.section }
 {
-    let b = x.b.in_millimetres();
-    clamped(8 * b, 10 * b, saturating_sub(14 * b, x.h0.in_millimetres()))
+    let b = x.section.b.in_millimetres();
+    let h0 = x.section.h0.in_millimetres();
+    clamped(8 * b, 10 * b, (14 * b).saturating_sub(h0))
 }
 
 // 6.3.1v.
-pub fn web_holds(x: Section) -> bool
-    requires { Bounded x }
-    ensures { result ≡ web_holds x }
+#[tactic(auto, using(crate::proofs::Bounds::sizes), unfolding(crate::specs::Steps::web_holds))]
+pub fn web_holds(x: ValidSection) -> bool
+    ensures { result ≡ web_holds x.section }
 {
-    let force_per_mm = scaled_width(x) * x.parameters.webFactor * x.concrete.fc.in_tenths();
-    12000 * x.v.in_newtons() <= force_per_mm * x.h0.in_millimetres()
+    let force_per_mm = scaled_width(x)
+        * x.section.parameters.webFactor
+        * x.section.concrete.fc.in_tenths();
+    12000 * x.section.v.in_newtons() <= force_per_mm * x.section.h0.in_millimetres()
 }

@@ -1,4 +1,5 @@
 -- The questions put to a held schedule are not question 1.
+use Rattle.std.specs.Prelude.{Err, Ok}
 use Prim.Native.Nat.{ℕ, ◌+◌}
 use mathlib.Core.Path.{◌≡◌, subst}
 use mathlib.Core.Bool.{Bool, true, false}
@@ -10,8 +11,7 @@ use Rattle.quantity.proofs.Choice.{if_case}
 use Rattle.question.specs.declared.Question.{Question}
 use Rattle.question.specs.declared.Question.TheVariants.{Mark, Kind, Field, Consistency, Bars, Ratio, ServiceMoment}
 use Rattle.question.specs.declared.Refusal.{Refusal}
-use Rattle.question.specs.declared.Verdict.{Verdict}
-use Rattle.question.specs.declared.Verdict.TheVariants.{Accepted, Refused}
+use Rattle.question.specs.Reading.{Verdict}
 use Rattle.question.specs.Question.{number_of}
 use Rattle.question.specs.Reading.{Reading, got, no, and_then, passed, named}
 use Rattle.member.specs.Member.{Member, beam, column, mesh}
@@ -32,8 +32,8 @@ NotSize q = number_of q ≡ 1 → ⊥
 
 -- a verdict, and a reading, whose no is not question 1
 data NoSize : Verdict → Type 0 where
-  accepted : NoSize Accepted
-  refused : {q : Question} → NotSize q → NoSize (Refused q)
+  accepted : NoSize (Ok tt)
+  refused : {q : Question} → NotSize q → NoSize (Err q)
 
 abbrev ReadsNoSize : {A : Type 0} → Reading Refusal A → Type 0
 ReadsNoSize (got a) = Unit

@@ -4,7 +4,8 @@ use mathlib.Core.Path.{◌≡◌, ap}
 use mathlib.Core.Bool.{true}
 use mathlib.Core.List.{List, [], ◌++◌}
 use native.Mathlib.Omega.{arith}
-use Rattle.text.specs.Put.{Put}
+use Rattle.text.specs.declared.Writer.{Writer}
+use Rattle.text.specs.Wrote.{Wrote}
 use Rattle.field_table.specs.Fields.{known, kind_of, fields_of}
 use Rattle.field_check.specs.FieldCheck.{fields_hold}
 use Rattle.verdict.specs.declared.Built.{Built}
@@ -39,5 +40,5 @@ module _ {x y : Built} (e : x ≡ y) where
   pub read_in_range : InRange y → (known x.kind ≡ true) × (fields_hold (fields_of (kind_of x.kind)) 0 x.fields.v ≡ true)
   read_in_range r = rw e (r.1, r.2)
 
-  pub put_record : {d d' : List ℕ} {at r : ℕ} → Put d at (bytes_of_all (member_numbers (member_of x))) d' r → Put d at (bytes_of_all (member_numbers (member_of y))) d' r
-  put_record p = rw (← e) p
+  pub wrote_record : {w w' : Writer} → Wrote w (bytes_of_all (member_numbers (member_of x))) w' → Wrote w (bytes_of_all (member_numbers (member_of y))) w'
+  wrote_record h = rw (← e) h

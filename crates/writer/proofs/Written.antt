@@ -1,4 +1,5 @@
 -- The promise of writing, from what the validator said and what was put.
+use Rattle.std.specs.Prelude.{Err, Ok}
 use Prim.Native.Nat.{ℕ, ◌*◌, ◌/◌, ◌≤◌}
 use mathlib.Core.Path.{◌≡◌, refl, sym, ap, ◌∙◌}
 use mathlib.Core.List.{List, ◌++◌}
@@ -12,7 +13,6 @@ use Rattle.question.specs.Reading as reading
 use Rattle.question.proofs.Numbers.{numbered}
 use Rattle.varint.specs.Encoding.{bytes_of}
 use Rattle.member.specs.Member.{Member}
-use Rattle.schedule.specs.declared.ScheduleAnswer.TheVariants as validated
 use Rattle.schedule.specs.Schedule.{schedule, schedule_answer}
 use Rattle.members.proofs.Accepted.{went_on}
 use Rattle.field_validator.proofs.Taken.{got_is}
@@ -20,8 +20,7 @@ use Rattle.schedule.proofs.Accepted.{schedule_accepted}
 use Rattle.encoding.specs.ScheduleBytes.{members_bytes, schedule_bytes}
 use Rattle.held_schedule.specs.HeldSchedule.{record_words, records_from, records_of, record_members, held_members}
 use Rattle.held_schedule.proofs.Records.{record_members_length, records_length, held_passed}
-use Rattle.text_answer.specs.declared.TextAnswer.{TextAnswer}
-use Rattle.text_answer.specs.declared.TextAnswer.TheVariants.{Refused}
+use Rattle.text_answer.specs.Printed.{TextAnswer}
 use Rattle.text_answer.specs.Printed.{numbers_for, answered, Printed}
 use Rattle.text_answer.proofs.Printed.{text_written, refused_is}
 use Rattle.report.specs.Report.{report_of}
@@ -109,7 +108,7 @@ written words d d' a ms e p =
       never_1 = λ n. never_1_of (schedule_bytes ms) (length d) (rw p.answer_is at n);
     }
 
-pub refused : (words d : List ℕ) (r : Refusal) → held_members words ≡ reading.no r → ScheduleWritten words d d (Refused r)
+pub refused : (words d : List ℕ) (r : Refusal) → held_members words ≡ reading.no r → ScheduleWritten words d d (Err r)
 unfolding file_of
 refused words d r e =
     record {
@@ -128,11 +127,11 @@ record Ready (words : List ℕ) (count : ℕ) : Type 0 where
   held : held_members words ≡ got ms
   goes_by : Counted words ms held count
 
-ready_of : (words : List ℕ) (o : Reading Refusal (List Member)) (count : ℕ) → held_members words ≡ o → validated.Accepted count ≡ schedule_answer o → Ready words count
+ready_of : (words : List ℕ) (o : Reading Refusal (List Member)) (count : ℕ) → held_members words ≡ o → Ok count ≡ schedule_answer o → Ready words count
 ready_of words (got ms) count e a = let c : count ≡ length ms = cc in record { ms = ms; held = e; goes_by = counted words ms e count c }
 ready_of words (reading.no r) count e a = absurd (let z : ◌≡◌ {A = ℕ} 0 1 = cc in omega arith)
 
-module _ (words : List ℕ) (count : ℕ) (e : validated.Accepted count ≡ schedule_answer (held_members words)) where
+module _ (words : List ℕ) (count : ℕ) (e : Ok count ≡ schedule_answer (held_members words)) where
   ready : Ready words count
   ready = ready_of words (held_members words) count refl e
 

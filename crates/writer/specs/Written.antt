@@ -8,7 +8,7 @@ use Rattle.member.specs.Member.{Member}
 use Rattle.schedule.specs.Schedule.{schedule}
 use Rattle.encoding.specs.ScheduleBytes.{schedule_bytes}
 use Rattle.held_schedule.specs.HeldSchedule.{held_members}
-use Rattle.text_answer.specs.declared.TextAnswer.{TextAnswer}
+use Rattle.text_answer.specs.Printed.{TextAnswer}
 use Rattle.text_answer.specs.Printed.{numbers_of, answered, buffer_after}
 use Rattle.report_text.specs.ReportText.{report_text}
 use Rattle.report.specs.Report.{report_of}

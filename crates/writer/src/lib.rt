@@ -2,7 +2,7 @@
 #![tactic(auto)]
 
 ghost use Rattle.std.specs.Prelude.{◌++◌, ◌*◌, ◌≤◌, length};
-ghost use Rattle.text.specs.Put.{Put};
+ghost use Rattle.text.specs.Wrote.{Wrote};
 ghost use Rattle.varint.specs.Encoding.{bytes_of};
 ghost use Rattle.text_answer.specs.Printed.{Printed};
 ghost use Rattle.held_schedule.specs.HeldSchedule.{record_words, records_from};
@@ -10,70 +10,49 @@ ghost use Rattle.round_trip.specs.RecordBytes.{records_bytes, AllInRange};
 ghost use Rattle.writer.specs.Written.{file_too_long, ScheduleWritten};
 
 use encoding::{put_member, put_number};
-use held_schedule::{read_record, validate_held};
-use question::Question;
-use schedule::ScheduleAnswer;
-use text_answer::{TextAnswer, no_room};
+use held_schedule::{RECORD_WORDS, read_record, validate_held};
+use question::{Question, Refusal};
+use text::Writer;
+use text_answer::put_whole;
 
-// The bytes of the first `count` records, into the buffer from `to` on: the place after them.
-fn put_records(words: &[u32], count: u32, out: &mut [u8], to: usize) -> usize
+// The bytes of the first `count` records.
+fn put_records(w: &mut Writer, words: &[u32], count: u32)
     requires { (count * record_words ≤ length words.now) × AllInRange (records_from count words.now 0) }
-    ensures { Put out.old to (records_bytes (records_from count words.now 0)) out.new result }
+    ensures { Wrote w.old (records_bytes (records_from count words.now 0)) w.new }
 {
-    let mut p: usize = 0;
-    let mut left = count;
-    let mut q = to;
-    while 0 < left {
-        let mut v = [0u32; 40];
-        let r = read_record(words, p, &mut v);
-        q = put_member(out, q, r.mark, r.kind, &v);
-        p = r.next;
-        left -= 1;
-    }
-    q
-}
-
-// The whole file: its length.
-fn put_schedule(words: &[u32], count: u32, out: &mut [u8]) -> usize
-    requires { (count * record_words ≤ length words.now) × AllInRange (records_from count words.now 0) }
-    ensures { Put out.old 0 (bytes_of count ++ records_bytes (records_from count words.now 0)) out.new result }
-{
-    let p = put_number(out, 0, count);
-    put_records(words, count, out, p)
-}
-
-// The file of the first `count` records. The first run only finds how long it is.
-fn write_measured(words: &[u32], count: u32, out: &mut [u8]) -> TextAnswer
-    requires { (count * record_words ≤ length words.now) × AllInRange (records_from count words.now 0) }
-    ensures { Printed file_too_long (bytes_of count ++ records_bytes (records_from count words.now 0)) out.old out.new result }
-{
-    let mut none = [0u8; 1];
-    let n = put_schedule(words, count, &mut none);
-    if out.len() < n {
-        no_room(Question::File, 0)
-    } else {
-        TextAnswer::Written(put_schedule(words, count, out))
+    for i in 0..count {
+        let x = read_record(words, i as usize * RECORD_WORDS);
+        put_member(w, x.mark, x.kind, &x.fields.v);
     }
 }
 
-// The same. The count of at most 500 takes two bytes at most and no member more than 61, so a buffer of 2 + 61·count bytes needs no first run.
-fn write_records(words: &[u32], count: u32, out: &mut [u8]) -> TextAnswer
+// The whole file.
+fn put_schedule(w: &mut Writer, words: &[u32], count: u32)
+    requires { (count * record_words ≤ length words.now) × AllInRange (records_from count words.now 0) }
+    ensures { Wrote w.old (bytes_of count ++ records_bytes (records_from count words.now 0)) w.new }
+{
+    put_number(w, count);
+    put_records(w, words, count);
+}
+
+// The file of the first `count` records. The count of at most 500 takes two bytes at most and no member more than 61.
+fn write_records(words: &[u32], count: u32, out: &mut [u8]) -> Result<usize, Refusal>
     requires { (count ≤ 500) × (count * record_words ≤ length words.now) × AllInRange (records_from count words.now 0) }
     ensures { Printed file_too_long (bytes_of count ++ records_bytes (records_from count words.now 0)) out.old out.new result }
 {
-    if 2 + 61 * (count as usize) <= out.len() {
-        TextAnswer::Written(put_schedule(words, count, out))
-    } else {
-        write_measured(words, count, out)
-    }
+    let most = 2 + 61 * (count as usize);
+    put_whole(
+        |w| put_schedule(w, words, count),
+        most,
+        Question::File.at(0),
+        out,
+    )
 }
 
 // The file of a held schedule: its members are put their questions, then its bytes are put.
-pub fn write_schedule(words: &[u32], out: &mut [u8]) -> TextAnswer
+pub fn write_schedule(words: &[u32], out: &mut [u8]) -> Result<usize, Refusal>
     ensures { ScheduleWritten words.now out.old out.new result }
 {
-    match validate_held(words) {
-        ScheduleAnswer::Refused(r) => TextAnswer::Refused(r),
-        ScheduleAnswer::Accepted(count) => write_records(words, count, out),
-    }
+    let count = validate_held(words)?;
+    write_records(words, count, out)
 }

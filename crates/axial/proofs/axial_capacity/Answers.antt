@@ -2,14 +2,14 @@
 use native.Mathlib.Omega.{arith}
 use Rattle.member.specs.Member.{column_of}
 use Rattle.stability.proofs.Bounds.{stability_most}
-use Rattle.axial.specs.Steps.{axial_capacity}
 use Rattle.axial.proofs.Tests.{slenderness_reflects}
 use Rattle.axial.proofs.Bounds.{product_most}
 use Rattle.axial.proofs.axial_capacity.Goals as goal
 
 pub stability_of-stability-requires : goal.stability_of-stability-requires
 stability_of-stability-requires c =
-    omega (arith, (slenderness_reflects (column_of c.args.x)).holds c.requires.2)
+    let x = c.args.x.valid in
+    omega (arith, (slenderness_reflects (column_of x.column)).holds c.requires.1)
 
 pub overflow_mul-stability : goal.overflow_mul-stability
 overflow_mul-stability c =
@@ -17,11 +17,6 @@ overflow_mul-stability c =
 
 pub overflow_mul-stability-2 : goal.overflow_mul-stability-2
 overflow_mul-stability-2 c =
-    let given = c.requires.0 in
-    rw (c.squash_load-load.ensures, c.stability_of-stability.ensures, c.in_millimetres.ensures, c.in_millimetres-b.ensures)
+    let given = c.args.x.given in
+    rw (c.squash_load.ensures, c.stability_of-stability.ensures, c.in_millimetres.ensures, c.in_millimetres-b.ensures)
     (omega (arith, product_most _ _ _ given, given.accepted.b_most))
-
-pub returns : goal.returns
-unfolding axial_capacity
-returns c =
-    rw (c.of_newtons.ensures, c.div_down.ensures, c.squash_load-load.ensures, c.stability_of-stability.ensures, c.in_millimetres.ensures, c.in_millimetres-b.ensures)

@@ -18,6 +18,6 @@ taken_more a b c front got rest n more k h p q =
 pub loop-n-preserved : goal.loop-n-preserved
 loop-n-preserved g c = record {
   within = search rules;
-  taken = taken_more _ _ _ (take c.loop-n.n c.loop-n.buf) c.read.new.buf _ c.loop-n.n c.in-Ok.more
-      (length-take-le _ _ c.loop-n.invariant.within) c.in-Ok.ensures.bound.0 c.loop-n.invariant.taken c.in-Ok.ensures.bytes.0;
+  taken = taken_more _ _ _ (take c.loop-n.n c.loop-n.buf) c.read.new.buf _ c.loop-n.n c.in_ok-more.more
+      (length-take-le _ _ c.loop-n.invariant.within) c.in_ok-more.ensures.bound.0 c.loop-n.invariant.taken c.in_ok-more.ensures.bytes.0;
 }

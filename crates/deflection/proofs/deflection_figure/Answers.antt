@@ -11,17 +11,18 @@ use Rattle.deflection.proofs.deflection_figure.Goals.{After-section_curvature-r}
 
 curvature_sized : (c : After-section_curvature-r) → c.section_curvature-r.result ≤ curvature_most
 curvature_sized c =
-    rw c.section_curvature-r.ensures (section_curvature_most c.args.x c.requires.0 c.args.mean c.args.stress c.requires.4 c.requires.2)
+    let x = c.args.x in
+    rw c.section_curvature-r.ensures (section_curvature_most x.valid.section x.valid.bounded x.mean x.stress x.mean_bound x.stress_bound)
 
 pub short_term_of-u-requires : goal.short_term_of-u-requires
 short_term_of-u-requires c =
-    let a = c.requires.0 in
+    let a = c.args.x.valid.bounded in
     rw (c.in_millimetres.ensures, c.in_millimetres-2.ensures) (a.l₀_most, a.slender, a.h₀_least, a.h₀_most, curvature_sized (goal.at.short_term_of-u-requires c).After-section_curvature-r)
 
 pub overflow_mul-u : goal.overflow_mul-u
 overflow_mul-u c =
-    let x = c.args.x in
-    let a = c.requires.0 in
+    let x = c.args.x.valid.section in
+    let a = c.args.x.valid.bounded in
     omega (
       arith,
       product_most c.short_term_of-u.result c.long_term_of-theta.result short_term_most long_term_most (
@@ -34,4 +35,4 @@ overflow_mul-u c =
 pub returns : goal.returns
 unfolding deflection deflection_of
 returns c =
-    rw (c.div_up.ensures, c.long_term_of-theta.ensures, c.short_term_of-u.ensures, c.in_millimetres-2.ensures, c.in_millimetres.ensures, c.section_curvature-r.ensures, c.requires.1, c.requires.3)
+    rw (c.div_up.ensures, c.long_term_of-theta.ensures, c.short_term_of-u.ensures, c.in_millimetres-2.ensures, c.in_millimetres.ensures, c.section_curvature-r.ensures, c.args.x.stress_is, c.args.x.mean_is)

@@ -2,7 +2,6 @@
 use native.Mathlib.Omega.{arith}
 use Rattle.quantity.proofs.Product.{product_most}
 use Rattle.deflection.specs.Bounds.{deflection_most}
-use Rattle.deflection.specs.Steps.{deflection_holds}
 use Rattle.deflection.proofs.Bounds.{divisor_between}
 use Rattle.deflection.proofs.deflection_holds.Goals as goal
 
@@ -11,9 +10,5 @@ overflow_mul-result c =
     omega (
       arith,
       product_most c.args.figure c.span_divisor.result deflection_most 400
-          (c.requires.2, rw c.span_divisor.ensures (divisor_between c.args.x.l0.0 c.args.x.strict).1),
+          (c.requires.1, rw c.span_divisor.ensures (divisor_between c.args.x.section.l0.0 c.args.x.section.strict).1),
     )
-
-pub returns : goal.returns
-unfolding deflection_holds
-returns c = rw (c.requires.1, c.span_divisor.ensures, c.in_millimetres.ensures)

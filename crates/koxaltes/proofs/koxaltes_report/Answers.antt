@@ -3,4 +3,4 @@ use Rattle.koxaltes.proofs.Answers.{report_entry}
 use Rattle.koxaltes.proofs.koxaltes_report.Goals as goal
 
 pub returns : goal.returns
-returns c = report_entry c.report.ensures c.answer_record.ensures
+returns c = report_entry c.report.ensures c.from.ensures

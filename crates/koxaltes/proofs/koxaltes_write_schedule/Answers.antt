@@ -3,4 +3,4 @@ use Rattle.koxaltes.proofs.Answers.{write_entry}
 use Rattle.koxaltes.proofs.koxaltes_write_schedule.Goals as goal
 
 pub returns : goal.returns
-returns c = write_entry c.write_schedule.ensures c.answer_record.ensures
+returns c = write_entry c.write_schedule.ensures c.from.ensures

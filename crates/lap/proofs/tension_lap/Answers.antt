@@ -1,38 +1,37 @@
 -- `lap::tension_lap` meets its contract.
 use Prim.Native.Nat.{◌≤◌}
 use native.Mathlib.Omega.{arith}
+use borrow.Author.Tests.{le-leb, lt-leb}
 use Rattle.member.specs.Member.{mesh_of}
 use Rattle.anchorage.proofs.Bounds.{basic_most}
 use Rattle.lap.specs.Steps.{tension_lap}
 use Rattle.lap.proofs.Bounds.{row_most, parts}
 use Rattle.lap.proofs.tension_lap.Goals as goal
-use Rattle.lap.proofs.tension_lap.Goals.{After-select-thick}
+use Rattle.lap.proofs.tension_lap.Goals.{After-in_millimetres-d}
 
-sizes : (c : After-select-thick) →
-    (c.select-least.result ≤ 300) × (c.basic_length-basic.result ≤ basic_most) × (c.select-thick.result ≤ 80)
+sizes : (c : After-in_millimetres-d) → (c.least_lap-least.result ≤ 300) × (c.basic_length-basic.result ≤ basic_most)
 sizes c =
-    let p = parts (mesh_of c.args.x) c.requires in (
-      rw c.select-least.ensures p.least,
-      rw (c.basic_length-basic.ensures, c.lap_row.ensures) p.basic,
-      rw (c.select-thick.ensures, c.in_millimetres-d.ensures) p.thick,
-    )
+    let x = c.args.x in
+    let p = parts (mesh_of x.mesh) x.accepted in
+    (rw c.least_lap-least.ensures p.least, rw (c.basic_length-basic.ensures, c.lap_row.ensures) p.basic)
 
 pub basic_length-basic-requires : goal.basic_length-basic-requires
-basic_length-basic-requires c = (c.requires, rw c.lap_row.ensures (row_most c.args.x.lapping))
-
-pub overflow_mul-least : goal.overflow_mul-least
-overflow_mul-least c = omega (arith, sizes (goal.at.overflow_mul-least c).After-select-thick)
+basic_length-basic-requires c = rw c.lap_row.ensures (row_most c.args.x.mesh.lapping)
 
 pub overflow_mul-basic : goal.overflow_mul-basic
-overflow_mul-basic c = omega (arith, sizes (goal.at.overflow_mul-basic c).After-select-thick)
-
-pub overflow_mul-result : goal.overflow_mul-result
-overflow_mul-result c = omega (arith, sizes (goal.at.overflow_mul-result c).After-select-thick)
+overflow_mul-basic c = omega (arith, sizes (goal.at.overflow_mul-basic c).After-in_millimetres-d)
 
 pub overflow_add-result : goal.overflow_add-result
-overflow_add-result c = omega (arith, sizes (goal.at.overflow_add-result c).After-select-thick)
+overflow_add-result c = omega (arith, sizes (goal.at.overflow_add-result c).After-in_millimetres-d, c.args.x.accepted.d.most)
 
-pub returns : goal.returns
+pub returns-then-d-ge12 : goal.returns-then-d-ge12
 unfolding tension_lap
-returns c =
-    rw (c.larger.ensures, c.select-thick.ensures, c.in_millimetres-d.ensures, c.basic_length-basic.ensures, c.lap_row.ensures, c.select-least.ensures)
+returns-then-d-ge12 c =
+    let e = rw c.in_millimetres-d.ensures at c.if-d-ge12.true in
+    rw (le-leb _ _ e, c.max-lap.ensures, c.basic_length-basic.ensures, c.lap_row.ensures, c.least_lap-least.ensures, c.in_millimetres-d.ensures) (omega arith)
+
+pub returns-else-d-ge12 : goal.returns-else-d-ge12
+unfolding tension_lap
+returns-else-d-ge12 c =
+    let e = rw c.in_millimetres-d.ensures at c.if-d-ge12.false in
+    rw (lt-leb _ _ e, c.max-lap.ensures, c.basic_length-basic.ensures, c.lap_row.ensures, c.least_lap-least.ensures) (omega arith)

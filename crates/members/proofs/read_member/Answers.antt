@@ -1,18 +1,28 @@
 -- `members::read_member` meets its contract.
-use Rattle.members.proofs.Accepted.{mark_got, kind_got, fields_got, member_taken}
+use mathlib.Core.Path.{sym, ◌∙◌}
+use Rattle.varint.proofs.Moved.{number_is}
+use Rattle.members.proofs.Accepted.{kind_got, fields_got, member_taken}
 use Rattle.members.proofs.read_member.Goals as goal
 
-pub read_number-mark-requires : goal.read_number-mark-requires
-read_number-mark-requires c = mark_got _ _ c.requires.1
-
 pub read_number-kind-requires : goal.read_number-kind-requires
-read_number-kind-requires c = kind_got _ _ c.requires.1 _ _ c.read_number-mark.ensures
+read_number-kind-requires c =
+    let m = c.read_number-mark.ensures in
+    rw m.same (kind_got _ _ c.requires _ _ (number_is _ _ _ m.reads))
 
-pub read_fields-after-requires : goal.read_fields-after-requires
-read_fields-after-requires c =
-    rw (c.kind_of.ensures, c.requires.0) (fields_got _ _ c.requires.1 _ _ c.read_number-mark.ensures _ _ c.read_number-kind.ensures)
+pub read_fields-requires : goal.read_fields-requires
+read_fields-requires c =
+    let m = c.read_number-mark.ensures in
+    let k = c.read_number-kind.ensures in
+    rw (k.same, m.same, c.kind_of.ensures)
+    (fields_got _ _ c.requires _ _ (number_is _ _ _ m.reads) _ _ (number_is _ _ _ (rw m.same at k.reads)))
 
 pub returns : goal.returns
 returns c =
-    member_taken _ _ c.requires.1 _ _ c.read_number-mark.ensures _ _ c.read_number-kind.ensures _ _
-    (rw (c.kind_of.ensures, c.requires.0) at c.read_fields-after.ensures)
+    let m = c.read_number-mark.ensures in
+    let k = c.read_number-kind.ensures in
+    let f = c.read_fields.ensures in
+    record {
+      same = f.same ∙ k.same ∙ m.same;
+      reads = sym (member_taken _ _ c.requires _ _ (number_is _ _ _ m.reads) _ _ (number_is _ _ _ (rw m.same at k.reads)) _ _
+          (sym (rw (k.same, m.same, c.kind_of.ensures) at f.reads)));
+    }

@@ -1,19 +1,26 @@
 -- `members::validate_member` meets its contract.
-use mathlib.Core.Path.{sym, ap, ◌∙◌}
-use Rattle.members.specs.MembersResult.{marked}
-use Rattle.members.proofs.Members.{mark_refused, kind_refused, member_body_lem}
+use borrow.Author.Rules.{rules}
+use Rattle.field_table.specs.Fields.{known}
+use Rattle.varint.proofs.Moved.{moved_refused, moved_on}
+use Rattle.members.specs.Members.{mark_rises}
+use Rattle.members.proofs.Members.{from_mark, from_kind, member_steps}
 use Rattle.members.proofs.validate_member.Goals as goal
 
-pub returns-in-Refused : goal.returns-in-Refused
-returns-in-Refused c =
-    c.refused_member.ensures ∙ sym (ap marked (mark_refused _ _ _ _ _ c.validate_mark.ensures c.in-Refused.is))
+pub returns-in_err-mark : goal.returns-in_err-mark
+returns-in_err-mark c =
+    let m = c.number_that.ensures (mark_rises c.args.before) (λ x b h r. search rules) in
+    rw member_steps (moved_refused _ _ _ _ m from_mark _ c.in_err-mark.was _ (search rules))
 
-pub returns-in-Refused-validate_kind : goal.returns-in-Refused-validate_kind
-returns-in-Refused-validate_kind c =
-    c.refused_member-in-Refused-validate_kind.ensures
-    ∙ sym (ap marked (kind_refused _ _ _ _ _ _ c.validate_mark.ensures c.in-Value.is _ _ c.validate_kind.ensures c.in-Refused-validate_kind.is))
+pub returns-in_err-number : goal.returns-in_err-number
+returns-in_err-number c =
+    let m = c.number_that.ensures (mark_rises c.args.before) (λ x b h r. search rules) in
+    let k = c.number_that-2.ensures known (λ x b h r. search rules) in
+    rw member_steps
+    (moved_on _ _ _ _ m from_mark _ c.in_ok-mark.was _ _ (moved_refused _ _ _ _ k (from_kind c.in_ok-mark.mark) _ c.in_err-number.was _ (search rules)))
 
-pub returns-in-Value-validate_kind : goal.returns-in-Value-validate_kind
-returns-in-Value-validate_kind c =
-    c.validate_body.ensures
-    ∙ sym (ap marked (member_body_lem _ _ _ _ _ _ c.validate_mark.ensures c.in-Value.is _ _ _ c.validate_kind.ensures c.in-Value-validate_kind.is))
+pub returns : goal.returns
+returns c =
+    let m = c.number_that.ensures (mark_rises c.args.before) (λ x b h r. search rules) in
+    let k = c.number_that-2.ensures known (λ x b h r. search rules) in
+    rw member_steps
+    (moved_on _ _ _ _ m from_mark _ c.in_ok-mark.was _ _ (moved_on _ _ _ _ k (from_kind c.in_ok-mark.mark) _ c.in_ok-number.was _ _ c.validate_body.ensures))

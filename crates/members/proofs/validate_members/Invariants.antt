@@ -1,11 +1,11 @@
-use Prim.Native.Nat.{◌+◌, ◌≤◌}
+use Prim.Native.Nat.{◌+◌, ◌-◌}
 use mathlib.Core.Path.{◌≡◌}
 use Rattle.members.specs.Members.{members}
 use Rattle.members.specs.MembersResult.{members_end}
 use Rattle.members.proofs.validate_members.Given as goal
 
-abbrev pub invariant-loop-left : goal.invariant-loop-left
-invariant-loop-left l = (l.i + l.left ≤ 501) × (members_end (members l.count l.src l.at 0 1) ≡ members_end (members l.left l.src l.p l.before l.i))
-
-abbrev pub decreases-loop-left : goal.decreases-loop-left
-decreases-loop-left l = l.left
+abbrev pub invariant-loop-i : goal.invariant-loop-i
+invariant-loop-i l =
+    let s = l.initial.input.src in
+    (l.input.src ≡ s)
+    × (members_end (members l.count s.now l.initial.input.at 0 1) ≡ members_end (members (l.count + 1 - l.i-counter) s.now l.input.at l.before l.i-counter))

@@ -1,18 +1,22 @@
 -- `members::validate_one_by_one` meets its contract.
-use mathlib.Core.Path.{sym, ◌∙◌}
-use Rattle.field_validator.proofs.Held.{fields_held}
-use Rattle.field_validator.proofs.Checked.{fields_got, fields_no}
-use Rattle.members.proofs.Members.{body_no, body_passed}
+use mathlib.Core.Path.{◌≡◌, sym, ◌∙◌}
+use borrow.Author.Rules.{rules}
+use Rattle.std.specs.Prelude.{Err}
+use Rattle.members.proofs.Members.{fields_read, fields_refused, body_no, body_refused}
 use Rattle.members.proofs.validate_one_by_one.Goals as goal
 
-pub member_verdict-requires : goal.member_verdict-requires
-member_verdict-requires c =
-    fields_held _ _ _ _ _ (fields_got _ _ c.validate_fields-run.ensures c.in-Accepted.is)
+pub returns-in_err-slots : goal.returns-in_err-slots
+returns-in_err-slots c =
+    let e : c.from_residual.result ≡ Err (c.in_err-slots.field-0.0) = search rules in
+    let m = c.validate_fields.ensures in
+    record { same = m.same; reads = rw e (sym (body_no _ _ _ c.kind_of-kind.ensures _ _ _ (fields_refused _ _ _ m.reads _ c.in_err-slots.was))) }
 
-pub returns-in-Refused : goal.returns-in-Refused
-returns-in-Refused c =
-    c.refused_member.ensures ∙ sym (body_no _ _ _ c.kind_of-kind.ensures _ _ _ (fields_no _ _ _ c.validate_fields-run.ensures c.in-Refused.is))
-
-pub returns-in-Accepted : goal.returns-in-Accepted
-returns-in-Accepted c =
-    rw c.member_verdict.ensures (sym (body_passed _ _ _ c.kind_of-kind.ensures _ _ _ _ (fields_got _ _ c.validate_fields-run.ensures c.in-Accepted.is)))
+pub returns-in_err-member_verdict : goal.returns-in_err-member_verdict
+returns-in_err-member_verdict c =
+    let e : c.from_residual-in_err-member_verdict.result ≡ Err (c.in_err-member_verdict.field-0.0) = search rules in
+    let m = c.validate_fields.ensures in
+    record {
+      same = m.same;
+      reads = rw e (sym (body_refused _ _ _ c.kind_of-kind.ensures _ _ _ _ (fields_read _ _ _ m.reads _ c.in_ok-slots.was) _
+          (sym c.member_verdict.ensures ∙ c.in_err-member_verdict.was)));
+    }

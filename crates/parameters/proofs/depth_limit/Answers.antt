@@ -9,7 +9,7 @@ use Rattle.parameters.proofs.depth_limit.Goals as goal
 pub returns-then-grade-le50 : goal.returns-then-grade-le50
 returns-then-grade-le50 c =
     let a = c.args in
-    rw (limit_to_c50 a.grade a.steel (omega (arith, c.if-grade-le50.true)), c.widen.ensures)
+    rw (limit_to_c50 a.grade a.steel (omega (arith, c.if-grade-le50.true)))
 
 pub overflow_mul-result : goal.overflow_mul-result
 overflow_mul-result c =

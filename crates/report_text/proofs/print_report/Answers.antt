@@ -1,12 +1,10 @@
 -- `report_text::print_report` meets its contract.
+use Rattle.std.proofs.Common.{rules, ◌+◌, ◌*◌}
 use native.Mathlib.Omega.{arith}
-use Rattle.text_answer.proofs.Printed.{printed_whole}
 use Rattle.report_text.proofs.Length.{report_fits}
 use Rattle.report_text.proofs.print_report.Goals as goal
 
-pub returns-then-count-out : goal.returns-then-count-out
-returns-then-count-out c =
-    printed_whole _ _ _ (report_fits _ _ _ (omega arith) c.if-count-out.true) c.put_report.ensures
-
-pub returns-else-count-out : goal.returns-else-count-out
-returns-else-count-out c = c.print_measured.ensures
+pub put_whole-requires : goal.put_whole-requires
+put_whole-requires c κs within =
+    let s = c.args.schedule in
+    search (rules, report_fits s.count s.input.src.now s.input.at {n = 19 + 55 * s.count} (omega arith) (omega arith))

@@ -1,40 +1,37 @@
--- `report_text::put_members` meets its contract. The loop's invariant: whoever puts the lines that are left puts all of them from the start.
-use mathlib.Core.Path.{refl, ◌∙◌}
+-- `report_text::put_members` meets its contract.
+use Prim.Native.Nat.{ℕ, ◌+◌, ◌-◌, ◌<◌}
+use mathlib.Core.Path.{◌≡◌, sym, ◌∙◌}
 use native.Mathlib.Omega.{arith}
-use Rattle.text.proofs.Put.{put_none, put_then, put_length, put_bounds}
-use Rattle.members.specs.MembersResult.{headed}
-use Rattle.members.proofs.Accepted.{member_was}
-use Rattle.report_text.proofs.ReportText.{lines_none, first_accepted, others_accepted, lines_more, put_member}
+use Rattle.text.proofs.Put.{leaves_more, leaves_none}
+use Rattle.members.proofs.Accepted.{member_was, first_accepted, others_accepted}
+use Rattle.report_text.proofs.ReportText.{lines_none, lines_more, wrote_member}
 use Rattle.report_text.proofs.put_members.Goals as goal
 
-pub loop-left-init : goal.loop-left-init
-loop-left-init c = (refl, omega arith, c.requires, λ d r w. w)
+one_fewer : (n i : ℕ) → n - (i + 1) ≡ n - i - 1
+one_fewer n i = omega arith
 
-pub read_member-r-requires : goal.read_member-r-requires
-read_member-r-requires c =
-    (refl, first_accepted _ _ _ c.loop-left-test.true c.loop-left.invariant.2)
+pub read_member-m-requires : goal.read_member-m-requires
+read_member-m-requires c =
+    let l = c.loop.invariant in
+    rw l.0 (first_accepted _ _ _ (omega arith) l.1)
 
-pub check_member-requires : goal.check_member-requires
-check_member-requires c =
-    let r = c.read_member-r in
-    rw c.kind_of.ensures (member_was _ _ 0 _ _ r.ensures).accepted
+pub invariant_of-x : goal.invariant_of-x
+invariant_of-x c =
+    record { accepted = rw c.kind_of.ensures (member_was _ _ 0 c.read_member-m.result _ (sym c.read_member-m.ensures.reads)).accepted }
 
-pub loop-left-preserved : goal.loop-left-preserved
-loop-left-preserved c =
-    let l = c.loop-left in
-    let m = c.read_member-r.ensures in (
-      put_length c.put_line-q.ensures ∙ l.invariant.0,
-      (put_bounds c.put_line-q.ensures).1,
-      others_accepted _ _ _ c.loop-left-test.true _ _ m l.invariant.2,
-      λ d n v.
-          l.invariant.3 d n (rw (lines_more _ _ _ c.loop-left-test.true _ _ m)
-          (put_then (put_member (headed c.read_member-r.result c.read_member-r.new.v) _ (rw c.kind_of.ensures at c.check_member.ensures) c.put_line-q.ensures) v)),
+pub loop-preserved : goal.loop-preserved
+loop-preserved c =
+    let l = c.loop in
+    let m = c.read_member-m in
+    let reads = sym (rw l.invariant.0 at m.ensures.reads) in
+    let h : 0 < c.args.schedule.count - l.counter = omega arith in
+    rw (one_fewer c.args.schedule.count l.counter) (
+      m.ensures.same ∙ l.invariant.0,
+      others_accepted _ _ _ h _ _ reads l.invariant.1,
+      leaves_more _ _ (rw (lines_more _ _ _ h _ _ reads) at l.invariant.2)
+          (wrote_member m.result _ (rw c.kind_of.ensures at c.check_member.ensures) c.put_line.ensures),
     )
-
-pub shape_of-out : goal.shape_of-out
-shape_of-out c = c.loop-left.invariant.0
 
 pub returns : goal.returns
 returns c =
-    let l = c.loop-left in
-    l.invariant.3 l.out l.q (rw (lines_none l.left _ l.p c.loop-left-test.false) (put_none l.out l.q (omega arith) l.invariant.1))
+    leaves_none (rw (lines_none (c.args.schedule.count - c.loop.counter) _ c.loop.input.at (omega arith)) at c.loop.invariant.2)

@@ -1,29 +1,28 @@
 -- `schedule::validate_schedule` meets its contract.
-use mathlib.Core.Path.{sym, ap, ◌∙◌}
-use Rattle.members.specs.MembersResult.{members_end_of}
-use Rattle.schedule.proofs.Answers.{too_long, no_count, too_many, member_no, bytes_left, all_read}
+use mathlib.Core.Path.{◌≡◌, sym}
+use native.Mathlib.Omega.{arith}
+use borrow.Author.Rules.{rules}
+use Rattle.std.specs.Prelude.{Err, Ok}
+use Rattle.schedule.proofs.Answers.{member_no, bytes_left, all_read}
 use Rattle.schedule.proofs.validate_schedule.Goals as goal
 
-pub returns-then-src-gt60000 : goal.returns-then-src-gt60000
-returns-then-src-gt60000 c = c.refused.ensures ∙ sym (too_long _ c.if-src-gt60000.true)
+pub returns-in_err-validate_members-clause-answer : goal.returns-in_err-validate_members-clause-answer
+returns-in_err-validate_members-clause-answer c =
+    let count : c.number.result ≡ Ok c.in_ok-count.count = search rules in
+    let ends = rw c.number.ensures.same at c.validate_members.ensures.reads in
+    let e : c.from_residual-in_err-validate_members.result ≡ Err (c.in_err-validate_members.field-0.0) = search rules in
+    rw e
+    (sym (member_no c.args.src.now (omega arith) _ _ c.number.ensures.reads c.in_ok-count.count count (omega arith) _ _ ends _ c.in_err-validate_members.was))
 
-pub returns-then-count-gt500 : goal.returns-then-count-gt500
-returns-then-count-gt500 c =
-    c.refused-then-count-gt500.ensures ∙ sym (too_many _ c.if-src-gt60000.false _ _ (sym c.number_at.ensures ∙ c.in-Value.is) c.if-count-gt500.true)
+pub returns-then-end-src-clause-answer : goal.returns-then-end-src-clause-answer
+returns-then-end-src-clause-answer c =
+    let count : c.number.result ≡ Ok c.in_ok-count.count = search rules in
+    let ends = rw c.number.ensures.same at c.validate_members.ensures.reads in
+    rw c.at-then-end-src.ensures
+    (sym (bytes_left c.args.src.now (omega arith) _ _ c.number.ensures.reads c.in_ok-count.count count (omega arith) _ _ ends c.in_ok-validate_members.was (omega arith)))
 
-pub returns-in-Refused : goal.returns-in-Refused
-returns-in-Refused c =
-    c.refused-in-Refused.ensures ∙ sym (no_count _ c.if-src-gt60000.false _ (sym c.number_at.ensures ∙ c.in-Refused.is))
-
-pub returns-in-Refused-validate_members : goal.returns-in-Refused-validate_members
-returns-in-Refused-validate_members c =
-    sym (member_no _ c.if-src-gt60000.false _ _ (sym c.number_at.ensures ∙ c.in-Value.is) c.if-count-gt500.false _ (sym c.validate_members.ensures ∙ ap members_end_of c.in-Refused-validate_members.is))
-
-pub returns-then-end-src : goal.returns-then-end-src
-returns-then-end-src c =
-    c.refused-then-end-src.ensures
-    ∙ sym (bytes_left _ c.if-src-gt60000.false _ _ (sym c.number_at.ensures ∙ c.in-Value.is) c.if-count-gt500.false _ (sym c.validate_members.ensures ∙ ap members_end_of c.in-At.is) c.if-end-src.true)
-
-pub returns-else-end-src : goal.returns-else-end-src
-returns-else-end-src c =
-    sym (all_read _ c.if-src-gt60000.false _ _ (sym c.number_at.ensures ∙ c.in-Value.is) c.if-count-gt500.false _ (sym c.validate_members.ensures ∙ ap members_end_of c.in-At.is) c.if-end-src.false)
+pub returns-clause-answer : goal.returns-clause-answer
+returns-clause-answer c =
+    let count : c.number.result ≡ Ok c.in_ok-count.count = search rules in
+    let ends = rw c.number.ensures.same at c.validate_members.ensures.reads in
+    sym (all_read c.args.src.now (omega arith) _ _ c.number.ensures.reads c.in_ok-count.count count (omega arith) _ _ ends c.in_ok-validate_members.was (omega arith))

@@ -1,6 +1,5 @@
 -- `stability::interpolate` meets its contract.
 use native.Mathlib.Omega.{arith}
-use Rattle.stability.specs.Steps.{interpolated}
 use Rattle.stability.proofs.Interval.{Inside, inside, Falling, falling}
 use Rattle.stability.proofs.interpolate.Goals as goal
 use Rattle.stability.proofs.interpolate.Goals.{After-point_at-q, Start}
@@ -13,16 +12,11 @@ here : (c : After-point_at-q) →
     Falling c.point_at-p.result c.point_at-q.result a.span a.b a.i
 here c =
     let a = c.args in
-    falling _ _ a.span a.b a.i c.point_at-p.ensures c.point_at-q.ensures (let p = c.requires in inside a.span a.b a.i p.4 p.0 p.2 p.3)
+    let p = c.requires in
+    falling _ _ a.span a.b a.i c.point_at-p.ensures c.point_at-q.ensures (inside a.span a.b a.i p.4 p.0 p.2 p.3)
 
 pub overflow_add-i : goal.overflow_add-i
 overflow_add-i c = omega (arith, (on (goal.at.overflow_add-i c).Start).last)
-
-pub overflow_mul-start-2 : goal.overflow_mul-start-2
-overflow_mul-start-2 c = omega (arith, (on (goal.at.overflow_mul-start-2 c).Start).low)
-
-pub overflow_mul-result-2 : goal.overflow_mul-result-2
-overflow_mul-result-2 c = omega (arith, here (goal.at.overflow_mul-result-2 c).After-point_at-q)
 
 pub overflow_sub-result : goal.overflow_sub-result
 overflow_sub-result c = (here (goal.at.overflow_sub-result c).After-point_at-q).falls
@@ -30,12 +24,5 @@ overflow_sub-result c = (here (goal.at.overflow_sub-result c).After-point_at-q).
 pub overflow_sub-result-2 : goal.overflow_sub-result-2
 overflow_sub-result-2 c = (on (goal.at.overflow_sub-result-2 c).Start).low
 
-pub overflow_mul-result-3 : goal.overflow_mul-result-3
-overflow_mul-result-3 c = omega (arith, here (goal.at.overflow_mul-result-3 c).After-point_at-q)
-
 pub overflow_sub-result-3 : goal.overflow_sub-result-3
 overflow_sub-result-3 c = (here (goal.at.overflow_sub-result-3 c).After-point_at-q).off
-
-pub returns : goal.returns
-unfolding interpolated
-returns c = cc

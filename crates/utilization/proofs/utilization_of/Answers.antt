@@ -1,21 +1,14 @@
 -- `utilization::utilization_of` meets its contract.
-use mathlib.Core.Path.{sym, refl, ◌∙◌}
-use Rattle.verdict.proofs.Accepted.{accepted_built}
-use Rattle.utilization.proofs.Utilized.{accepted_exact, given, refused}
+use Rattle.std.specs.Prelude.{◌≡◌, Ok}
+use borrow.Author.Rules.{rules}
+use Rattle.utilization.proofs.Utilized.{given, valid_exact}
 use Rattle.utilization.proofs.utilization_of.Goals as goal
 
-pub check_member-o-requires : goal.check_member-o-requires
-check_member-o-requires c =
-    rw c.kind_of-kind.ensures (accepted_built _ _ _ (sym c.built_verdict.ensures ∙ c.in-Accepted.is))
-
 pub member_utilization-requires : goal.member_utilization-requires
-member_utilization-requires c =
-    rw c.kind_of-kind.ensures
-    (accepted_exact _ (sym c.built_verdict.ensures ∙ c.in-Accepted.is) (rw c.kind_of-kind.ensures at c.check_member-o.ensures))
+member_utilization-requires c = valid_exact c.in_ok-member.member c.check_member-o.ensures
 
-pub returns-in-Refused : goal.returns-in-Refused
-returns-in-Refused c = refused _ _ (sym c.built_verdict.ensures ∙ c.in-Refused.is) refl
-
-pub returns-in-Accepted : goal.returns-in-Accepted
-returns-in-Accepted c =
-    given _ (sym c.built_verdict.ensures ∙ c.in-Accepted.is) (rw (c.member_utilization.ensures, c.check_member-o.ensures, c.kind_of-kind.ensures))
+pub returns : goal.returns
+returns c =
+    let p : c.validate.result ≡ Ok c.in_ok-member.member = search rules in
+    let v = rw p at c.validate.ensures in
+    given _ c.in_ok-member.member v.0 v.1 c.check_member-o.ensures c.member_utilization.ensures

@@ -1,10 +1,10 @@
 -- `vectors::input_tally` meets its contract.
-use mathlib.Core.Path.{◌≡◌, sym}
+use mathlib.Core.Path.{◌≡◌, sym, ◌∙◌}
 use native.Mathlib.Omega.{arith}
 use lib.Dec.{ltb}
 use lib.ListN.{length, take}
 use lib.Seq.{length-take-le}
-use Rattle.vectors.proofs.Walk.{one_most, tally_is}
+use Rattle.vectors.proofs.Walk.{counted, one_most, tally_is}
 use Rattle.vectors.proofs.input_tally.Goals as goal
 use Rattle.vectors.proofs.input_tally.Goals.{Start}
 
@@ -21,9 +21,9 @@ row_tally-t-requires c = omega (arith, long (goal.at.row_tally-t-requires c).Sta
 pub overflow_add-result : goal.overflow_add-result
 overflow_add-result c =
     let x = c.args in
-    omega (arith, c.row_tally-t.ensures.1, c.one_if.ensures, one_most (ltb 320000 x.n))
+    omega (arith, c.row_tally-t.ensures.1, c.from.ensures, counted (ltb 320000 x.n), one_most (ltb 320000 x.n))
 
 pub returns : goal.returns
 returns c =
     let t = c.row_tally-t.ensures in
-    tally_is _ _ _ _ t.0 (sym (long (goal.at.returns c).Start)) c.one_if.ensures
+    tally_is _ _ _ _ t.0 (sym (long (goal.at.returns c).Start)) (c.from.ensures ∙ counted (ltb 320000 c.args.n))

@@ -1,4 +1,4 @@
-use Prim.Native.Nat.{◌*◌, ◌-◌, ◌≤◌}
+use Prim.Native.Nat.{◌*◌, ◌-◌}
 use mathlib.Core.Path.{◌≡◌}
 use lib.ListN.{length}
 use lib.Seq.{sets}
@@ -7,10 +7,4 @@ use Rattle.vectors.proofs.read_words.Given as goal
 
 abbrev pub invariant-loop-i : goal.invariant-loop-i
 invariant-loop-i l =
-    (length l.words ≡ 16384)
-    × (l.p ≡ 4 * l.i)
-    × (l.i ≤ l.n)
-    × (sets l.words l.i (words_from (l.n - l.i) l.src l.p) ≡ sets l.initial.words 0 (words_from l.n l.src 0))
-
-abbrev pub decreases-loop-i : goal.decreases-loop-i
-decreases-loop-i l = l.n - l.i
+    (length l.words ≡ 16384) × (sets l.words l.i (words_from (l.n - l.i) l.src (4 * l.i)) ≡ sets l.initial.words 0 (words_from l.n l.src 0))

@@ -4,7 +4,7 @@ use native.Mathlib.Omega.{arith}
 use lib.ListN.{length}
 use borrow.Author.Rules.{rules}
 use Rattle.vectors.specs.Vectors.{part_end, equal_at, one_if, equal_of, tally}
-use Rattle.vectors.proofs.Walk.{all_left, one_most, one_vector, one_equal, none_left}
+use Rattle.vectors.proofs.Walk.{all_left, counted, one_most, one_vector, one_equal, none_left}
 use Rattle.vectors.proofs.row_tally.Goals as goal
 
 pub loop-p-init : goal.loop-p-init
@@ -14,14 +14,14 @@ loop-p-init c =
     (search rules, search rules, search rules, omega (arith, ap length e), omega (arith, ap (equal_of s) e))
 
 pub overflow_add-equal : goal.overflow_add-equal
-overflow_add-equal c = omega (arith, c.one_if-equal.ensures, one_most c.equal_at.result)
+overflow_add-equal c = omega (arith, c.from-equal.ensures, counted c.equal_at.result, one_most c.equal_at.result)
 
 pub loop-p-preserved : goal.loop-p-preserved
 loop-p-preserved c =
     let l = c.loop-p in
     let s = c.args.src.now in
     let b = c.equal_at in
-    let n = c.one_if-equal.ensures ∙ ap one_if b.ensures in
+    let n = c.from-equal.ensures ∙ (counted b.result ∙ ap one_if b.ensures) in
     let f = c.part_end-p.ensures.0 ∙ ap (part_end s) c.part_end.ensures.0 in
     let v = one_vector s l.vectors l.p l.invariant.0 c.loop-p-test.true _ f in
     let e = one_equal s l.vectors l.p l.invariant.0 c.loop-p-test.true _ f in

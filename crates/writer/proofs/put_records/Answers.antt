@@ -1,37 +1,35 @@
--- `writer::put_records` meets its contract. The loop's invariant: whoever puts the records that are left puts all of them from the start.
-use mathlib.Core.Path.{refl, ◌∙◌}
+-- `writer::put_records` meets its contract.
+use Prim.Native.Nat.{ℕ, ◌+◌, ◌-◌, ◌*◌, ◌<◌}
+use mathlib.Core.Path.{◌≡◌}
 use native.Mathlib.Omega.{arith}
-use Rattle.text.proofs.Put.{put_none, put_then, put_length, put_bounds}
-use Rattle.writer.proofs.Records.{records_none, first_in_range, others_in_range, records_more, read_in_range, put_record}
+use Rattle.text.proofs.Put.{leaves_all, leaves_more, leaves_none}
+use Rattle.writer.proofs.Records.{records_none, first_in_range, others_in_range, records_more, read_in_range, wrote_record}
 use Rattle.writer.proofs.put_records.Goals as goal
 
-pub loop-left-init : goal.loop-left-init
-loop-left-init c =
-    (refl, omega arith, omega (arith, c.requires.0), c.requires.1, λ d r w. w)
+one_fewer : (n i : ℕ) → n - (i + 1) ≡ n - i - 1
+one_fewer n i = omega arith
 
-pub read_record-r-requires : goal.read_record-r-requires
-read_record-r-requires c = omega (arith, c.loop-left.invariant.2, c.loop-left-test.true)
+one_on : (i : ℕ) → (i + 1) * 42 ≡ i * 42 + 42
+one_on i = omega arith
 
-pub put_member-q-requires : goal.put_member-q-requires
-put_member-q-requires c =
-    read_in_range c.read_record-r.ensures.0 (first_in_range _ _ _ c.loop-left-test.true c.loop-left.invariant.3)
+pub loop-i-init : goal.loop-i-init
+loop-i-init c =
+    let e : c.args.count - 0 ≡ c.args.count = omega arith in
+    rw e (c.requires.1, leaves_all _ _ (omega arith))
 
-pub loop-left-preserved : goal.loop-left-preserved
-loop-left-preserved c =
-    let l = c.loop-left in (
-      put_length c.put_member-q.ensures ∙ l.invariant.0,
-      (put_bounds c.put_member-q.ensures).1,
-      omega (arith, c.read_record-r.ensures.1, l.invariant.2, c.loop-left-test.true),
-      rw c.read_record-r.ensures.1 (others_in_range _ _ _ c.loop-left-test.true l.invariant.3),
-      λ d n v.
-          l.invariant.4 d n (rw (records_more _ _ _ c.loop-left-test.true)
-          (put_then (put_record c.read_record-r.ensures.0 c.put_member-q.ensures) (rw c.read_record-r.ensures.1 at v))),
+pub put_member-requires : goal.put_member-requires
+put_member-requires c =
+    read_in_range c.read_record-x.ensures (first_in_range _ _ _ (omega arith) c.loop-i.invariant.0)
+
+pub loop-i-preserved : goal.loop-i-preserved
+loop-i-preserved c =
+    let l = c.loop-i in
+    let h : 0 < c.args.count - l.i = omega arith in
+    rw (one_fewer c.args.count l.i, one_on l.i) (
+      others_in_range _ _ _ h l.invariant.0,
+      leaves_more _ _ (rw (records_more _ _ _ h) at l.invariant.1) (wrote_record c.read_record-x.ensures c.put_member.ensures),
     )
-
-pub shape_of-out : goal.shape_of-out
-shape_of-out c = c.loop-left.invariant.0
 
 pub returns : goal.returns
 returns c =
-    let l = c.loop-left in
-    l.invariant.4 l.out l.q (rw (records_none l.left _ l.p c.loop-left-test.false) (put_none l.out l.q (omega arith) l.invariant.1))
+    leaves_none (rw (records_none (c.args.count - c.loop-i.i) _ (c.loop-i.i * 42) (omega arith)) at c.loop-i.invariant.1)

@@ -1,12 +1,10 @@
 -- `writer::write_records` meets its contract.
-use Rattle.text_answer.proofs.Printed.{printed_whole}
+use Rattle.std.proofs.Common.{rules, ◌+◌, ◌*◌}
+use native.Mathlib.Omega.{arith}
 use Rattle.writer.proofs.Written.{records_fit}
 use Rattle.writer.proofs.write_records.Goals as goal
 
-pub returns-then-count-out : goal.returns-then-count-out
-returns-then-count-out c =
+pub put_whole-requires : goal.put_whole-requires
+put_whole-requires c κs within =
     let pre = c.requires in
-    printed_whole _ _ _ (records_fit _ _ _ pre.0 pre.2 c.if-count-out.true) c.put_schedule.ensures
-
-pub returns-else-count-out : goal.returns-else-count-out
-returns-else-count-out c = c.write_measured.ensures
+    search (rules, records_fit c.args.count c.args.words.now (2 + 61 * c.args.count) pre.0 pre.2 (omega arith))
