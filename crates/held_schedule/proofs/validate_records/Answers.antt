@@ -24,9 +24,11 @@ loop-i-preserved c =
     let h : 0 < c.args.count - c.loop-i.i-counter = omega arith in
     let yes : c.record_verdict.result ≡ Ok tt = search rules in
     let r = c.read_record-next.ensures in
-    let at : c.read_record-next.result.1 ≡ (c.loop-i.i-counter + 1) * record_words = rw r.1 (omega arith) in
-    (at, rw (one_fewer c.args.count c.loop-i.i-counter, r.0, r.1)
-    (c.loop-i.invariant.1 ∙ record_accepted _ _ _ _ _ _ h (rw r.0 at (sym c.record_verdict.ensures ∙ yes))))
+    let at : c.read_record-next.result.1 ≡ (c.loop-i.i-counter + 1) * record_words = rw r.1 (omega arith) in (
+      at,
+      rw (one_fewer c.args.count c.loop-i.i-counter, r.0, r.1)
+          (c.loop-i.invariant.1 ∙ record_accepted _ _ _ _ _ _ h (rw r.0 at (sym c.record_verdict.ensures ∙ yes))),
+    )
 
 pub returns : goal.returns
 returns c = sym (c.loop-i.invariant.1 ∙ no_record _ (c.args.count - c.loop-i.i-counter) _ _ _ _ (omega arith))

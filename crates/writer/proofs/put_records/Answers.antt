@@ -24,8 +24,7 @@ loop-preserved c =
     let l = c.loop in
     let r = c.read_record-next.ensures in
     let h : 0 < c.args.count - l.counter = omega arith in
-    let at : c.read_record-next.result.1 ≡ (l.counter + 1) * record_words = rw r.1 (omega arith) in
-    (
+    let at : c.read_record-next.result.1 ≡ (l.counter + 1) * record_words = rw r.1 (omega arith) in (
       at,
       rw (one_fewer c.args.count l.counter, r.1) (others_in_range _ _ _ h l.invariant.1),
       rw (one_fewer c.args.count l.counter, r.1) (leaves_more _ _ (rw (records_more _ _ _ h) at l.invariant.2) (wrote_record r.0 c.put_member.ensures)),
