@@ -17,6 +17,8 @@ use varint::Cursor;
 use verdict::{Built, mark_in_range, member_verdict};
 
 // The member with this mark and the kind of this number, whose fields come next and are validated one by one: its mark.
+// Not inlined: most members never come here, and its slots need not stand on the stack of every call.
+#[inline(never)]
 #[tactic(auto, using(field_validator::proofs::Held::fields_held, crate::proofs::Members::fields_read, crate::proofs::Members::body_accepted))]
 fn validate_one_by_one(input: &mut Cursor, mark: u32, number: u32) -> Result<u32, Question>
     ensures { Moved input.old (marked (member_body mark number input.old.src.now input.old.at)) result input.new }
