@@ -3,6 +3,7 @@
 
 ghost use Rattle.std.specs.Prelude.{◌≡◌, ◌∷◌, [], ◌+◌, ◌/◌, ◌%◌, ◌<◌, ◌≤◌, length};
 ghost use Rattle.text.specs.Text.{decimal};
+ghost use Rattle.text.specs.Put.{Put};
 ghost use Rattle.text.specs.Wrote.{Wrote};
 
 use text::Writer;
@@ -16,6 +17,7 @@ fn digit(d: u64) -> u8
 }
 
 // The two digits of a number below 100, where there is room for them.
+#[inline(always)]
 fn set_two(w: &mut Writer, two: u64)
     requires { (two < 100) × (w.old.at + 2 ≤ length w.old.out.now) }
     ensures { Wrote w.old ((48 + two / 10) ∷ (48 + two % 10) ∷ []) w.new }
@@ -26,6 +28,7 @@ fn set_two(w: &mut Writer, two: u64)
 }
 
 // The four digits of a number below 10000, where there is room for them.
+#[inline(always)]
 fn set_four(w: &mut Writer, four: u64)
     requires { (four < 10000) × (w.old.at + 4 ≤ length w.old.out.now) }
     ensures { Wrote w.old ((48 + four / 100 / 10) ∷ (48 + four / 100 % 10) ∷ (48 + four % 100 / 10) ∷ (48 + four % 100 % 10) ∷ []) w.new }
@@ -35,6 +38,7 @@ fn set_four(w: &mut Writer, four: u64)
 }
 
 // A number below 100 in decimal, where there is room for two digits.
+#[inline(always)]
 fn set_short(w: &mut Writer, v: u64)
     requires { (v < 100) × (w.old.at + 2 ≤ length w.old.out.now) }
     ensures { Wrote w.old (decimal v) w.new }
@@ -48,6 +52,7 @@ fn set_short(w: &mut Writer, v: u64)
 }
 
 // A number below 10000 in decimal, where there is room for four digits.
+#[inline(always)]
 fn set_medium(w: &mut Writer, v: u64)
     requires { (v < 10000) × (w.old.at + 4 ≤ length w.old.out.now) }
     ensures { Wrote w.old (decimal v) w.new }
@@ -61,6 +66,7 @@ fn set_medium(w: &mut Writer, v: u64)
 }
 
 // A number below 10^8 in decimal, where there is room for eight digits.
+#[inline(always)]
 fn set_long(w: &mut Writer, v: u64)
     requires { (v < 100000000) × (w.old.at + 8 ≤ length w.old.out.now) }
     ensures { Wrote w.old (decimal v) w.new }
@@ -92,12 +98,22 @@ fn put_tight(w: &mut Writer, v: u64)
     }
 }
 
+// The same into a buffer from `at` on, by a writer of its own, which the compiler keeps in registers: the place after it.
+fn set_from(out: &mut [u8], at: usize, v: u64) -> usize
+    requires { (v < 100000000) × (at + 8 ≤ length out.old) }
+    ensures { Put out.old at (decimal v) out.new result }
+{
+    let mut w = Writer { out, at };
+    set_long(&mut w, v);
+    w.at
+}
+
 // `v` in decimal, without leading zeros: up to eight digits are stored with one look at the room.
 pub fn put_decimal(w: &mut Writer, v: u64)
     ensures { Wrote w.old (decimal v) w.new }
 {
     if v < 100000000 && 8 <= w.out.len().saturating_sub(w.at) {
-        set_long(w, v);
+        w.at = set_from(w.out, w.at, v);
     } else {
         put_tight(w, v);
     }

@@ -39,89 +39,109 @@ pub const COLUMN_FIELDS: usize = 17;
 // Of a mesh, which has no groups.
 pub const MESH_FIELDS: usize = 11;
 
-// Field j of a list of groups whose count stands in slot k.
-pub fn group_field(k: u32, j: usize) -> Domain
-    requires { j < 8 }
-    ensures { result ≡ get_or (groups k) j Domain.Grade }
-{
-    let place = j as u32 / 2;
-    if j % 2 == 0 {
-        Domain::GroupDiameter(k, place)
-    } else {
-        Domain::GroupBars(k, place)
-    }
-}
+// The fields of a beam. The last one, a, is there only under a point load.
+static BEAM_TABLE: [Domain; 38] = [
+    Domain::Range(100, 1000),
+    Domain::Range(160, 2000),
+    Domain::Range(100, 3000),
+    Domain::Range(0, 1000),
+    Domain::Range(20, 200),
+    Domain::ZeroOr(20, 200),
+    Domain::Grade,
+    Domain::Steel,
+    Domain::Range(1, 4),
+    Domain::GroupDiameter(8, 0),
+    Domain::GroupBars(8, 0),
+    Domain::GroupDiameter(8, 1),
+    Domain::GroupBars(8, 1),
+    Domain::GroupDiameter(8, 2),
+    Domain::GroupBars(8, 2),
+    Domain::GroupDiameter(8, 3),
+    Domain::GroupBars(8, 3),
+    Domain::Range(0, 4),
+    Domain::GroupDiameter(17, 0),
+    Domain::GroupBars(17, 0),
+    Domain::GroupDiameter(17, 1),
+    Domain::GroupBars(17, 1),
+    Domain::GroupDiameter(17, 2),
+    Domain::GroupBars(17, 2),
+    Domain::GroupDiameter(17, 3),
+    Domain::GroupBars(17, 3),
+    Domain::Bar(6, 12),
+    Domain::Range(2, 8),
+    Domain::Range(50, 400),
+    Domain::LinkSteel,
+    Domain::Range(15, 200),
+    Domain::Range(1000, 12000),
+    Domain::Range(0, 100000000),
+    Domain::Range(1, 100000000),
+    Domain::Range(0, 100000000),
+    Domain::Range(1, 3),
+    Domain::Range(0, 1),
+    Domain::Range(0, 12000),
+];
 
-// Field i of a beam. The last one, a, is there only under a point load.
+// Of a column.
+static COLUMN_TABLE: [Domain; 17] = [
+    Domain::Range(300, 1500),
+    Domain::Range(300, 1500),
+    Domain::Grade,
+    Domain::Steel,
+    Domain::Range(1, 4),
+    Domain::GroupDiameter(4, 0),
+    Domain::GroupBars(4, 0),
+    Domain::GroupDiameter(4, 1),
+    Domain::GroupBars(4, 1),
+    Domain::GroupDiameter(4, 2),
+    Domain::GroupBars(4, 2),
+    Domain::GroupDiameter(4, 3),
+    Domain::GroupBars(4, 3),
+    Domain::Bar(6, 12),
+    Domain::Range(50, 600),
+    Domain::Range(500, 30000),
+    Domain::Range(0, 1000000000),
+];
+
+// Of a mesh.
+static MESH_TABLE: [Domain; 11] = [
+    Domain::Range(1, 2),
+    Domain::Grade,
+    Domain::Bar(5, 16),
+    Domain::Range(0, 1),
+    Domain::Range(0, 1),
+    Domain::Range(0, 1),
+    Domain::Range(0, 4),
+    Domain::Range(1, 2),
+    Domain::Range(0, 1),
+    Domain::Range(0, 100000),
+    Domain::Range(0, 100000),
+];
+
+// Field i of a beam.
+#[inline(always)]
 pub fn beam_field(i: usize) -> Domain
     requires { i < length (beam_fields_of true) }
     ensures { result ≡ get_or (beam_fields_of true) i Domain.Grade }
 {
-    match i {
-        0 => Domain::Range(100, 1000),
-        1 => Domain::Range(160, 2000),
-        2 => Domain::Range(100, 3000),
-        3 => Domain::Range(0, 1000),
-        4 => Domain::Range(20, 200),
-        5 => Domain::ZeroOr(20, 200),
-        6 => Domain::Grade,
-        7 => Domain::Steel,
-        8 => Domain::Range(1, 4),
-        9..=16 => group_field(TENSION_COUNT as u32, i - TENSION_GROUPS),
-        17 => Domain::Range(0, 4),
-        18..=25 => group_field(COMPRESSION_COUNT as u32, i - COMPRESSION_GROUPS),
-        26 => Domain::Bar(6, 12),
-        27 => Domain::Range(2, 8),
-        28 => Domain::Range(50, 400),
-        29 => Domain::LinkSteel,
-        30 => Domain::Range(15, 200),
-        31 => Domain::Range(1000, 12000),
-        32 => Domain::Range(0, 100000000),
-        33 => Domain::Range(1, 100000000),
-        34 => Domain::Range(0, 100000000),
-        35 => Domain::Range(1, 3),
-        36 => Domain::Range(0, 1),
-        _ => Domain::Range(0, 12000),
-    }
+    BEAM_TABLE[i]
 }
 
 // Field i of a column.
+#[inline(always)]
 pub fn column_field(i: usize) -> Domain
     requires { i < length column_fields }
     ensures { result ≡ get_or column_fields i Domain.Grade }
 {
-    match i {
-        0 => Domain::Range(300, 1500),
-        1 => Domain::Range(300, 1500),
-        2 => Domain::Grade,
-        3 => Domain::Steel,
-        4 => Domain::Range(1, 4),
-        5..=12 => group_field(COLUMN_COUNT as u32, i - COLUMN_GROUPS),
-        13 => Domain::Bar(6, 12),
-        14 => Domain::Range(50, 600),
-        15 => Domain::Range(500, 30000),
-        _ => Domain::Range(0, 1000000000),
-    }
+    COLUMN_TABLE[i]
 }
 
 // Field i of a mesh.
+#[inline(always)]
 pub fn mesh_field(i: usize) -> Domain
     requires { i < length mesh_fields }
     ensures { result ≡ get_or mesh_fields i Domain.Grade }
 {
-    match i {
-        0 => Domain::Range(1, 2),
-        1 => Domain::Grade,
-        2 => Domain::Bar(5, 16),
-        3 => Domain::Range(0, 1),
-        4 => Domain::Range(0, 1),
-        5 => Domain::Range(0, 1),
-        6 => Domain::Range(0, 4),
-        7 => Domain::Range(1, 2),
-        8 => Domain::Range(0, 1),
-        9 => Domain::Range(0, 100000),
-        _ => Domain::Range(0, 100000),
-    }
+    MESH_TABLE[i]
 }
 
 // Question 6.
@@ -169,6 +189,7 @@ pub fn field_count(kind: MemberKind) -> usize
 }
 
 // Field i of a kind.
+#[inline(always)]
 #[tactic(auto, unfolding(crate::specs::Fields::fields_of))]
 pub fn field_of(kind: MemberKind, i: usize) -> Domain
     requires { i < length (fields_of kind) }

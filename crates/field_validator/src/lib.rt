@@ -1,10 +1,10 @@
 // The validator of a member's fields: one by one, each held to its domain, or all at once. A cursor stands before the first, and after the
-// last where no question was answered no.
+// last where no question was answered no; else it stays where it was.
 // The functions that take numbers are inlined, so that the reader, which knows that nothing is refused, has code without what only a
 // refusal needs.
 #![tactic(auto)]
 
-ghost use Rattle.std.specs.Prelude.{◌+◌, ◌-◌, ◌≤◌, ℕ, Bool};
+ghost use Rattle.std.specs.Prelude.{◌≡◌, ◌+◌, ◌-◌, ◌≤◌, ℕ, Bool, OnErr};
 ghost use Rattle.field_domain.specs.Domain.{holds};
 ghost use Rattle.field_table.specs.Fields.{groups, beam_fields_of, column_fields, fields_of};
 ghost use Rattle.varint.specs.Moved.{Moved};
@@ -29,10 +29,17 @@ pub fn number_that<F: Fn(u32) -> bool>(
     test: F,
 ) -> Result<u32, Question>
     requires { F.IsAlwaysCallable test }
-    ensures { (asked : ℕ → Bool) → Tests (F.post test) asked → Moved input.old (checked q asked input.old.src.now input.old.at) result input.new }
+    ensures moved { (asked : ℕ → Bool) → Tests (F.post test) asked → Moved input.old (checked q asked input.old.src.now input.old.at) result input.new }
+    ensures stays { OnErr result (input.new.at ≡ input.old.at) }
 {
-    let x = input.number()?;
-    if test(x) { Ok(x) } else { Err(q) }
+    let mut after = *input;
+    let x = after.number()?;
+    if test(x) {
+        *input = after;
+        Ok(x)
+    } else {
+        Err(q)
+    }
 }
 
 // The next number as a field: questions 2, 3 and 7.
@@ -45,15 +52,18 @@ fn validate_field(input: &mut Cursor, d: Domain) -> Result<u32, Question>
 // The fields of a kind, in slots.
 #[tactic(auto, using(field_table::proofs::Tables::fields_fit, crate::proofs::Fields::fields_read, crate::proofs::Fields::field_absent, crate::proofs::Fields::field_refused, crate::proofs::Fields::field_stored))]
 pub fn validate_fields(input: &mut Cursor, kind: MemberKind) -> Result<Slots, Question>
-    ensures { Moved input.old (fields (fields_of kind) input.old.src.now input.old.at 0 empty) (fields_read_of result) input.new }
+    ensures moved { Moved input.old (fields (fields_of kind) input.old.src.now input.old.at 0 empty) (fields_read_of result) input.new }
+    ensures stays { OnErr result (input.new.at ≡ input.old.at) }
 {
+    let mut after = *input;
     let mut v = [0; 40];
     for i in 0..field_count(kind) {
         let d = field_of(kind, i);
         if field_present(d, &v) {
-            v[i] = validate_field(input, d)?;
+            v[i] = validate_field(&mut after, d)?;
         }
     }
+    *input = after;
     Ok(Slots { v })
 }
 
@@ -109,11 +119,15 @@ fn take_column(input: &mut Cursor, v: &mut [u32; 40]) -> Result<(), Question>
 #[tactic(auto, using(crate::proofs::Taken::mesh_rows), unfolding(field_table::specs::Fields::fields_of))]
 #[inline(always)]
 pub fn take_fields(input: &mut Cursor, kind: MemberKind, v: &mut [u32; 40]) -> Result<(), Question>
-    ensures { Moved input.old (taken (fields_of kind) input.old.src.now input.old.at 0 v.old) (fields_end_of result v.new) input.new }
+    ensures moved { Moved input.old (taken (fields_of kind) input.old.src.now input.old.at 0 v.old) (fields_end_of result v.new) input.new }
+    ensures stays { OnErr result (input.new.at ≡ input.old.at) }
 {
+    let mut after = *input;
     match kind {
-        MemberKind::Beam(pointLoad) => take_beam(input, pointLoad, v),
-        MemberKind::Column => take_column(input, v),
-        MemberKind::Mesh => take_row(input, v, 0, MESH_FIELDS),
-    }
+        MemberKind::Beam(pointLoad) => take_beam(&mut after, pointLoad, v),
+        MemberKind::Column => take_column(&mut after, v),
+        MemberKind::Mesh => take_row(&mut after, v, 0, MESH_FIELDS),
+    }?;
+    *input = after;
+    Ok(())
 }

@@ -13,18 +13,20 @@ use verdict::{Built, built_verdict};
 // The words of a member's record: its mark, its kind, and 40 slots that hold its fields in the order of its kind's table.
 pub const RECORD_WORDS: usize = 42;
 
-// The record at word `at`, as a member that a caller built.
-pub fn read_record(words: &[u32], at: usize) -> Built
+// The record at word `at`, as a member that a caller built; and the word after it.
+pub fn read_record(words: &[u32], at: usize) -> (Built, usize)
     requires { at + record_words ≤ length words.now }
-    ensures { result ≡ record_at words.now at }
+    ensures { (result.0 ≡ record_at words.now at) × (result.1 ≡ at + record_words) }
 {
+    let next = at + RECORD_WORDS;
     let mut v = [0; 40];
-    v.copy_from_slice(&words[at + 2..at + RECORD_WORDS]);
-    Built {
+    v.copy_from_slice(&words[at + 2..next]);
+    let record = Built {
         mark: words[at],
         kind: words[at + 1],
         fields: Slots { v },
-    }
+    };
+    (record, next)
 }
 
 // The questions put to a record whose mark must be above the one before.
@@ -45,10 +47,12 @@ fn validate_records(words: &[u32], count: u32) -> Result<u32, Refusal>
     requires { (count ≤ 500) × (count * record_words ≤ length words.now) }
     ensures { result ≡ schedule_answer (record_members 0 1 (records_from count words.now 0)) }
 {
+    let mut at = 0;
     let mut before = 0;
     for i in 0..count {
-        let x = read_record(words, i as usize * RECORD_WORDS);
+        let (x, next) = read_record(words, at);
         record_verdict(before, &x).map_err(|q| q.at(i + 1))?;
+        at = next;
         before = x.mark;
     }
     Ok(count)

@@ -12,6 +12,7 @@ use outcome::Outcome;
 use text::Writer;
 
 // The word `s` and the separator after it.
+#[inline(always)]
 fn put_label(w: &mut Writer, s: &[u8], separator: u8)
     ensures { Wrote w.old (s.now ++ (separator ∷ [])) w.new }
 {
@@ -20,6 +21,7 @@ fn put_label(w: &mut Writer, s: &[u8], separator: u8)
 }
 
 // The number `v` and the separator after it.
+#[inline(always)]
 fn put_number(w: &mut Writer, v: u64, separator: u8)
     ensures { Wrote w.old (decimal v ++ (separator ∷ [])) w.new }
 {
@@ -28,12 +30,16 @@ fn put_number(w: &mut Writer, v: u64, separator: u8)
 }
 
 // The figure `f` and the separator after it.
+#[inline(always)]
 fn put_figure(w: &mut Writer, f: Option<u64>, separator: u8)
     ensures { Wrote w.old (figure_word f ++ (separator ∷ [])) w.new }
 {
     match f {
         Some(v) => put_number(w, v, separator),
-        None => put_label(w, b"-", separator),
+        None => {
+            w.put_byte(b'-');
+            w.put_byte(separator);
+        }
     }
 }
 

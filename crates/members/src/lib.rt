@@ -2,7 +2,7 @@
 // with its member. The reader takes an accepted one again. A cursor stands before a member, and after it where it is accepted.
 #![tactic(auto)]
 
-ghost use Rattle.std.specs.Prelude.{◌≡◌};
+ghost use Rattle.std.specs.Prelude.{◌≡◌, OnErr};
 ghost use Rattle.question.specs.Reading.{Got};
 ghost use Rattle.varint.specs.Moved.{Moved};
 ghost use Rattle.members.specs.Members.{member_body, mark_rises, member, members};
@@ -17,6 +17,8 @@ use varint::Cursor;
 use verdict::{Built, mark_in_range, member_verdict};
 
 // The member with this mark and the kind of this number, whose fields come next and are validated one by one: its mark.
+// Not inlined: most members never come here, and its slots need not stand on the stack of every call.
+#[inline(never)]
 #[tactic(auto, using(field_validator::proofs::Held::fields_held, crate::proofs::Members::fields_read, crate::proofs::Members::body_accepted))]
 fn validate_one_by_one(input: &mut Cursor, mark: u32, number: u32) -> Result<u32, Question>
     ensures { Moved input.old (marked (member_body mark number input.old.src.now input.old.at)) result input.new }
@@ -84,11 +86,14 @@ pub fn read_member(input: &mut Cursor) -> Built
 // The next `count` members; or the refusal.
 #[tactic(auto, using(crate::proofs::Members::no_member, crate::proofs::Members::member_refused))]
 pub fn validate_members(input: &mut Cursor, count: u32) -> Result<(), Refusal>
-    ensures { Moved input.old (members_end (members count input.old.src.now input.old.at 0 1)) result input.new }
+    ensures moved { Moved input.old (members_end (members count input.old.src.now input.old.at 0 1)) result input.new }
+    ensures stays { OnErr result (input.new.at ≡ input.old.at) }
 {
+    let mut after = *input;
     let mut before = 0;
     for i in 1..=count {
-        before = validate_member(input, before).map_err(|q| q.at(i))?;
+        before = validate_member(&mut after, before).map_err(|q| q.at(i))?;
     }
+    *input = after;
     Ok(())
 }

@@ -22,6 +22,9 @@ pub fn report(src: &[u8], out: &mut [u8]) -> Result<usize, Refusal>
 pub fn member_report(x: Built, out: &mut [u8]) -> Result<usize, Refusal>
     ensures { MemberReported x out.old out.new result }
 {
-    let member = x.validate().map_err(|q| q.at(1))?;
-    print_line(member.mark, check_member(&member), out)
+    // by reference: the member is not moved again
+    match &x.validate() {
+        Ok(member) => print_line(member.mark, check_member(member), out),
+        Err(q) => Err(q.at(1)),
+    }
 }

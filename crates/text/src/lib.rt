@@ -14,6 +14,7 @@ pub struct Writer<'a> {
 }
 
 impl<'a> Writer<'a> {
+    ghost use Rattle.text.specs.Put.{Put};
     ghost use Rattle.text.specs.Wrote.{Wrote};
 
     // From the buffer's start on.
@@ -26,6 +27,7 @@ impl<'a> Writer<'a> {
     }
 
     // One byte. The place stays at the largest one.
+    #[inline(always)]
     pub fn put_byte(&mut self, b: u8)
         ensures { Wrote self.old (b ∷ []) self.new }
     {
@@ -35,12 +37,28 @@ impl<'a> Writer<'a> {
         self.at = self.at.saturating_add(1);
     }
 
-    // The bytes of `s`.
-    pub fn put(&mut self, s: &[u8])
+    #[inline(always)]
+    fn put_each(&mut self, s: &[u8])
         ensures { Wrote self.old s.now self.new }
     {
         for b in s {
             self.put_byte(*b);
         }
+    }
+
+    // The bytes of `s` into a buffer from `at` on: the place after them, which the compiler keeps in a register.
+    fn put_from(out: &mut [u8], at: usize, s: &[u8]) -> usize
+        ensures { Put out.old at s.now out.new result }
+    {
+        let mut w = Writer { out, at };
+        w.put_each(s);
+        w.at
+    }
+
+    // The bytes of `s`.
+    pub fn put(&mut self, s: &[u8])
+        ensures { Wrote self.old s.now self.new }
+    {
+        self.at = Writer::put_from(self.out, self.at, s);
     }
 }

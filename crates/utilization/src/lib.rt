@@ -98,7 +98,9 @@ fn member_utilization(x: &ValidMember, o: Outcome) -> Utilization
 pub fn utilization_of(x: Built) -> Result<Utilization, Refusal>
     ensures { Utilized x result }
 {
-    let member = x.validate().map_err(|q| q.at(1))?;
-    let o = check_member(&member);
-    Ok(member_utilization(&member, o))
+    // by reference: the member is not moved again
+    match &x.validate() {
+        Ok(member) => Ok(member_utilization(member, check_member(member))),
+        Err(q) => Err(q.at(1)),
+    }
 }

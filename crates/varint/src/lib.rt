@@ -2,7 +2,7 @@
 // its top bit is set where another follows. Document 01 calls a septet a group.
 #![tactic(auto)]
 
-ghost use Rattle.std.specs.Prelude.{◌≡◌, ◌+◌, ◌*◌, ◌^◌, ◌<◌, ◌≤◌, length};
+ghost use Rattle.std.specs.Prelude.{◌≡◌, ◌+◌, ◌*◌, ◌^◌, ◌<◌, ◌≤◌, length, OnErr};
 ghost use Rattle.varint.specs.Varint.{number_at, septets_at, last_septet};
 ghost use Rattle.varint.specs.Placed.{of_number};
 ghost use Rattle.varint.specs.Moved.{Moved};
@@ -77,10 +77,11 @@ pub struct Cursor<'a> {
 }
 
 impl Cursor<'_> {
-    // The next number; or the question that is answered no, 2 or 3.
+    // The next number; or the question that is answered no, 2 or 3, and the cursor stays where it was.
     #[inline(always)]
     pub fn number(&mut self) -> Result<u32, Question>
-        ensures { Moved self.old (of_number (number_at self.old.src.now self.old.at)) result self.new }
+        ensures moved { Moved self.old (of_number (number_at self.old.src.now self.old.at)) result self.new }
+        ensures stays { OnErr result (self.new.at ≡ self.old.at) }
     {
         let (value, next) = number_at(self.src, self.at)?;
         self.at = next;

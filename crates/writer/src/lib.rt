@@ -10,7 +10,7 @@ ghost use Rattle.round_trip.specs.RecordBytes.{records_bytes, AllInRange};
 ghost use Rattle.writer.specs.Written.{file_too_long, ScheduleWritten};
 
 use encoding::{put_member, put_number};
-use held_schedule::{RECORD_WORDS, read_record, validate_held};
+use held_schedule::{read_record, validate_held};
 use question::{Question, Refusal};
 use text::Writer;
 use text_answer::put_whole;
@@ -20,9 +20,11 @@ fn put_records(w: &mut Writer, words: &[u32], count: u32)
     requires { (count * record_words ≤ length words.now) × AllInRange (records_from count words.now 0) }
     ensures { Wrote w.old (records_bytes (records_from count words.now 0)) w.new }
 {
-    for i in 0..count {
-        let x = read_record(words, i as usize * RECORD_WORDS);
+    let mut at = 0;
+    for _ in 0..count {
+        let (x, next) = read_record(words, at);
         put_member(w, x.mark, x.kind, &x.fields.v);
+        at = next;
     }
 }
 

@@ -1,6 +1,6 @@
 -- `held_schedule::read_record` meets its contract.
 use Prim.Native.Nat.{◌+◌, ◌-◌}
-use mathlib.Core.Path.{◌≡◌}
+use mathlib.Core.Path.{◌≡◌, refl}
 use native.Mathlib.Omega.{arith}
 use Rattle.field_layout.proofs.Part.{part_slice}
 use Rattle.held_schedule.specs.HeldSchedule.{record_at}
@@ -11,4 +11,4 @@ unfolding record_at
 returns c =
     let at = c.args.at in
     let n : at + 42 - (at + 2) ≡ 40 = omega arith in
-    rw (part_slice c.args.words.now (at + 2) 40 (omega arith), c.copy_from_slice.ensures.after, n)
+    (rw (part_slice c.args.words.now (at + 2) 40 (omega arith), c.copy_from_slice.ensures.after, n), refl)

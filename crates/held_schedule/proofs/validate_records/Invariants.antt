@@ -7,4 +7,5 @@ use Rattle.held_schedule.proofs.validate_records.Given as goal
 
 abbrev pub invariant-loop-i : goal.invariant-loop-i
 invariant-loop-i l =
-    schedule_answer (record_members 0 1 (records_from l.count l.words 0)) ≡ answer_of l.count (record_members l.before (l.i-counter + 1) (records_from (l.count - l.i-counter) l.words (l.i-counter * record_words)))
+    (l.at ≡ l.i-counter * record_words)
+    × (schedule_answer (record_members 0 1 (records_from l.count l.words 0)) ≡ answer_of l.count (record_members l.before (l.i-counter + 1) (records_from (l.count - l.i-counter) l.words l.at)))

@@ -9,7 +9,7 @@ use Rattle.members.proofs.validate_body.Goals as goal
 pub returns-in_err-member_verdict-in-Ok : goal.returns-in_err-member_verdict-in-Ok
 returns-in_err-member_verdict-in-Ok c =
     let e : c.from_residual.result ≡ Err (c.in_err-member_verdict-in-Ok.field-0.0) = search rules in
-    let m = c.take_fields.ensures in
+    let m = c.take_fields.ensures.moved in
     record {
       same = m.same;
       reads = rw e (sym (body_refused _ _ _ c.kind_of-kind.ensures _ _ _ _

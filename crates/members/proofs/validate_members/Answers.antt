@@ -17,8 +17,8 @@ loop-i-preserved c =
     (m.same ∙ l.0, l.1 ∙ member_read _ _ _ _ _ _ left _ _ (rw l.0 at m.reads) _ read)
 
 -- the last member
-pub returns-in_ok-before : goal.returns-in_ok-before
-returns-in_ok-before c =
+pub returns-in_ok-before-clause-moved : goal.returns-in_ok-before-clause-moved
+returns-in_ok-before-clause-moved c =
     let l = c.loop-i.invariant in
     let m = c.validate_member.ensures in
     let read : c.validate_member.result ≡ Ok c.in_ok-before.before = search rules in

@@ -1,35 +1,35 @@
 -- `writer::put_records` meets its contract.
 use Prim.Native.Nat.{ℕ, ◌+◌, ◌-◌, ◌*◌, ◌<◌}
-use mathlib.Core.Path.{◌≡◌}
+use mathlib.Core.Path.{◌≡◌, refl}
 use native.Mathlib.Omega.{arith}
 use Rattle.text.proofs.Put.{leaves_all, leaves_more, leaves_none}
+use Rattle.held_schedule.specs.HeldSchedule.{record_words}
 use Rattle.writer.proofs.Records.{records_none, first_in_range, others_in_range, records_more, read_in_range, wrote_record}
 use Rattle.writer.proofs.put_records.Goals as goal
 
 one_fewer : (n i : ℕ) → n - (i + 1) ≡ n - i - 1
 one_fewer n i = omega arith
 
-one_on : (i : ℕ) → (i + 1) * 42 ≡ i * 42 + 42
-one_on i = omega arith
-
-pub loop-i-init : goal.loop-i-init
-loop-i-init c =
+pub loop-init : goal.loop-init
+loop-init c =
     let e : c.args.count - 0 ≡ c.args.count = omega arith in
-    rw e (c.requires.1, leaves_all _ _ (omega arith))
+    rw e (refl, c.requires.1, leaves_all _ _ (omega arith))
 
 pub put_member-requires : goal.put_member-requires
 put_member-requires c =
-    read_in_range c.read_record-x.ensures (first_in_range _ _ _ (omega arith) c.loop-i.invariant.0)
+    read_in_range c.read_record-next.ensures.0 (first_in_range _ _ _ (omega arith) c.loop.invariant.1)
 
-pub loop-i-preserved : goal.loop-i-preserved
-loop-i-preserved c =
-    let l = c.loop-i in
-    let h : 0 < c.args.count - l.i = omega arith in
-    rw (one_fewer c.args.count l.i, one_on l.i) (
-      others_in_range _ _ _ h l.invariant.0,
-      leaves_more _ _ (rw (records_more _ _ _ h) at l.invariant.1) (wrote_record c.read_record-x.ensures c.put_member.ensures),
+pub loop-preserved : goal.loop-preserved
+loop-preserved c =
+    let l = c.loop in
+    let r = c.read_record-next.ensures in
+    let h : 0 < c.args.count - l.counter = omega arith in
+    let at : c.read_record-next.result.1 ≡ (l.counter + 1) * record_words = rw r.1 (omega arith) in (
+      at,
+      rw (one_fewer c.args.count l.counter, r.1) (others_in_range _ _ _ h l.invariant.1),
+      rw (one_fewer c.args.count l.counter, r.1) (leaves_more _ _ (rw (records_more _ _ _ h) at l.invariant.2) (wrote_record r.0 c.put_member.ensures)),
     )
 
 pub returns : goal.returns
 returns c =
-    leaves_none (rw (records_none (c.args.count - c.loop-i.i) _ (c.loop-i.i * 42) (omega arith)) at c.loop-i.invariant.1)
+    leaves_none (rw (records_none (c.args.count - c.loop.counter) _ c.loop.at (omega arith)) at c.loop.invariant.2)

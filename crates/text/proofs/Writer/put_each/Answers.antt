@@ -1,11 +1,11 @@
--- `text::Writer::put` meets its contract: after i turns the first i bytes are put.
+-- `text::Writer::put_each` meets its contract: after i turns the first i bytes are put.
 use Prim.Native.Nat.{◌<◌}
 use native.Mathlib.Numerals.{add-one}
 use native.Mathlib.Omega.{arith}
 use lib.ListN.{length}
 use lib.Seq.{take-suc}
 use Rattle.text.proofs.Put.{wrote_then}
-use Rattle.text.proofs.Writer.put.Goals as goal
+use Rattle.text.proofs.Writer.put_each.Goals as goal
 
 pub loop-b-preserved : goal.loop-b-preserved
 loop-b-preserved c =
