@@ -98,7 +98,8 @@ fn put_tight(w: &mut Writer, v: u64)
     }
 }
 
-// The same into a buffer from `at` on, by a writer of its own, which the compiler keeps in registers: the place after it.
+// A number below 10^8 in decimal into a buffer from `at` on, where there is room for eight digits: the place after it. The writer is its
+// own, so the compiler keeps its place in a register.
 fn set_from(out: &mut [u8], at: usize, v: u64) -> usize
     requires { (v < 100000000) × (at + 8 ≤ length out.old) }
     ensures { Put out.old at (decimal v) out.new result }

@@ -1,7 +1,6 @@
-// The validator of a member's fields: one by one, each held to its domain, or all at once. A cursor stands before the first, and after the
-// last where no question was answered no; else it stays where it was.
-// The functions that take numbers are inlined, so that the reader, which knows that nothing is refused, has code without what only a
-// refusal needs.
+// The validator of a member's fields: one by one, each held to its domain, or all at once. A caller's cursor stands before the first, and
+// after the last where no question was answered no; else it stays where it was.
+// `take_row` to `take_fields` are inlined, so that the cursor need not stand in memory between them.
 #![tactic(auto)]
 
 ghost use Rattle.std.specs.Prelude.{◌≡◌, ◌+◌, ◌-◌, ◌≤◌, ℕ, Bool, OnErr};

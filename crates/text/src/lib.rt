@@ -37,6 +37,7 @@ impl<'a> Writer<'a> {
         self.at = self.at.saturating_add(1);
     }
 
+    // The bytes of `s`, one by one.
     #[inline(always)]
     fn put_each(&mut self, s: &[u8])
         ensures { Wrote self.old s.now self.new }

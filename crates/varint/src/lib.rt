@@ -47,7 +47,7 @@ fn long_number(src: &[u8], at: usize, low: u64) -> Result<(u32, usize), Question
 }
 
 // The number whose first septet stands at `at`, and the place after its last; or the question that is answered no, 2 or 3.
-// Most numbers are one or two septets, so these are read without a loop. Inlined, so that the reader's code asks nothing.
+// Most numbers are one or two septets, so these are read without a loop.
 #[inline(always)]
 fn number_at(src: &[u8], at: usize) -> Result<(u32, usize), Question>
     ensures { result ≡ number_at src.now at }

@@ -11,9 +11,6 @@ use Rattle.held_schedule.proofs.validate_records.Goals as goal
 one_fewer : (n i : ℕ) → n - (i + 1) ≡ n - i - 1
 one_fewer n i = omega arith
 
-one_on : (i : ℕ) → (i + 1) * 42 ≡ i * 42 + 42
-one_on i = omega arith
-
 pub loop-i-init : goal.loop-i-init
 loop-i-init c =
     let e : c.args.count - 0 ≡ c.args.count = omega arith in
