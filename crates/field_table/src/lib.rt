@@ -6,6 +6,9 @@ ghost use Rattle.field_table.specs.Fields.{groups, beam_fields_of, column_fields
 
 use field_domain::{Domain, in_range};
 
+#[cfg(test)]
+mod tests;
+
 // The kinds of member. A beam: whether it is under a point load (kind 4) or not (kind 1).
 #[derive(Clone, Copy)]
 pub enum MemberKind {
@@ -38,6 +41,19 @@ pub const COLUMN_FIELDS: usize = 17;
 
 // Of a mesh, which has no groups.
 pub const MESH_FIELDS: usize = 11;
+
+// Field j of a list of groups whose count stands in slot k, any slot. Nothing here calls it: the tables below have the lists that there are.
+pub fn group_field(k: u32, j: usize) -> Domain
+    requires { j < 8 }
+    ensures { result ≡ get_or (groups k) j Domain.Grade }
+{
+    let place = j as u32 / 2;
+    if j % 2 == 0 {
+        Domain::GroupDiameter(k, place)
+    } else {
+        Domain::GroupBars(k, place)
+    }
+}
 
 // The fields of a beam. The last one, a, is there only under a point load.
 static BEAM_TABLE: [Domain; 38] = [
